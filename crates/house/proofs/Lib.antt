@@ -1,0 +1,3 @@
+pub mod Builders
+pub mod Checking
+pub mod Appending

@@ -1,0 +1,9 @@
+mod Answers
+mod Sending
+mod Pairs
+mod LampFrames
+mod Times
+mod Commands
+mod Cells
+mod Blocks
+mod MemoryReads

@@ -1,0 +1,5 @@
+pub mod Designs
+pub mod Memories
+pub mod LampBytes
+pub mod Pushes
+pub mod Cells

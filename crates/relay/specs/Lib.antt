@@ -1,0 +1,5 @@
+pub mod Contacts
+pub mod Relays
+pub mod Reports
+pub mod Shown
+pub mod Tables
