@@ -25,12 +25,12 @@ or-assoc : (a b c : Bool) → ((a || b) || c) ≡ (a || (b || c))
 or-assoc true b c = refl
 or-assoc false b c = refl
 
+or-false : (a : Bool) → a ≡ (a || false)
+or-false true = refl
+or-false false = refl
+
 outside-is : (ss : List Seat) (r : Addresses) → listed ss r .outside ≡ (r .outside || bad-address ss)
 outside-is [] r = or-false (r .outside)
-  where
-    or-false : (a : Bool) → a ≡ (a || false)
-    or-false true = refl
-    or-false false = refl
 outside-is (s ∷ ss) r = outside-is ss (added (s .address) r) ∙ or-assoc (r .outside) (eqb (s .address) 0 || eqb (s .address) 255) (bad-address ss)
 
 count-is : (ss : List Seat) (r : Addresses) → r .count ≤ 17 → listed ss r .count ≡ min 17 (r .count + length ss)
@@ -76,18 +76,10 @@ shuffle true s q c d = refl
 shuffle false true q c d = refl
 shuffle false false true true d = refl
 shuffle false false true false d = refl
-shuffle false false false c d = ap (λ x. x || d) (or-false c)
-  where
-    or-false : (a : Bool) → (a || false) ≡ a
-    or-false true = refl
-    or-false false = refl
+shuffle false false false c d = ap (λ x. x || d) (sym (or-false c))
 
 twice-is : (ss : List Seat) (r : Addresses) → length (r .seated) ≡ 256 → All Sound ss → listed ss r .twice ≡ (r .twice || (seen r ss || address-twice ss))
 twice-is [] r l h = or-false (r .twice)
-  where
-    or-false : (a : Bool) → a ≡ (a || false)
-    or-false true = refl
-    or-false false = refl
 twice-is (s ∷ ss) r l h =
     let a = s .address in
     let within : a < length (r .seated) = omega (arith, h .0 .0) in

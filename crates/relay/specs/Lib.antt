@@ -1,3 +1,4 @@
+pub mod Channels
 pub mod Contacts
 pub mod Relays
 pub mod Reports

@@ -21,6 +21,7 @@ use Rattle.relay.specs.declared.relay.Relay.{Relay}
 use Rattle.relay.specs.declared.relay.RelaySetup.{RelaySetup}
 use Rattle.relay.specs.declared.query.Query.{Query}
 use Rattle.relay.specs.declared.timers.Timers.{Timers}
+use Rattle.relay.specs.Channels.{each, paired, numbered}
 use Rattle.relay.specs.Contacts.{Contact, obeyed, ticked, contact-bytes, contact-at}
 use Rattle.relay.specs.Reports.{made, statuses, report, lamps}
 use Rattle.relay.specs.Shown.{all-shown}
@@ -32,8 +33,7 @@ state-of x = contact-bytes (x .one) ++ (contact-bytes (x .two) ++ (contact-bytes
 
 -- the channels that a record tells
 abbrev pub contacts : Record → PerChannel Contact
-contacts r =
-    record { one = contact-at (r .state) 0; two = contact-at (r .state) 4; three = contact-at (r .state) 8; four = contact-at (r .state) 12 }
+contacts r = numbered (λ c. contact-at (r .state) (4 * c))
 
 -- which channels a command names, by the low four bits of its second byte
 abbrev pub has-bit : ℕ → ℕ → Bool
@@ -59,8 +59,7 @@ carried None wanted x = x
 carried (Some a) wanted x = cond wanted (obeyed a x) x
 
 abbrev pub carried-out : Option Action → PerChannel Bool → PerChannel Contact → PerChannel Contact
-carried-out a w x =
-    record { one = carried a (w .one) (x .one); two = carried a (w .two) (x .two); three = carried a (w .three) (x .three); four = carried a (w .four) (x .four) }
+carried-out a w x = paired (carried a) w x
 
 -- 0xFA asks for the status of the channels that it names; else what changed is told
 abbrev pub answer : ℕ → Frame → PerChannel Bool → PerChannel Contact → List Frame
@@ -82,16 +81,14 @@ query f = record { address = f .address; buttons = Some (byte f 1) }
 
 -- the pair that each channel obeys
 abbrev pub pairs : List ℕ → Frame → PerChannel (Option ℕ)
-pairs cells f =
-    record { one = first-pair cells 0 (query f); two = first-pair cells 1 (query f); three = first-pair cells 2 (query f); four = first-pair cells 3 (query f) }
+pairs cells f = numbered (λ c. first-pair cells c (query f))
 
 abbrev pub by-pair : Timers → Option ℕ → Contact → Contact
 by-pair t None x = x
 by-pair t (Some p) x = obeyed (action-of t p) x
 
 abbrev pub by-pairs : PerChannel Timers → PerChannel (Option ℕ) → PerChannel Contact → PerChannel Contact
-by-pairs t p x =
-    record { one = by-pair (t .one) (p .one) (x .one); two = by-pair (t .two) (p .two) (x .two); three = by-pair (t .three) (p .three) (x .three); four = by-pair (t .four) (p .four) (x .four) }
+by-pairs t p x = paired (λ act y. act y) (paired by-pair t p) x
 
 -- the button bits of a pair
 abbrev pub pair-bits : List ℕ → ℕ → Option ℕ → Option ℕ
@@ -99,8 +96,7 @@ pair-bits cells c None = None
 pair-bits cells c (Some p) = Some (getD cells (pair-cell c p + 1) 0)
 
 abbrev pub all-bits : List ℕ → PerChannel (Option ℕ) → PerChannel (Option ℕ)
-all-bits cells p =
-    record { one = pair-bits cells 0 (p .one); two = pair-bits cells 1 (p .two); three = pair-bits cells 2 (p .three); four = pair-bits cells 3 (p .four) }
+all-bits cells p = paired (pair-bits cells) (numbered (λ c. c)) p
 
 -- a button status from a linked address
 abbrev pub status : RelaySetup → ℕ → Record → Frame → Outcome
@@ -114,7 +110,7 @@ status s own r f =
     }
 
 abbrev pub all-ticked : PerChannel Contact → PerChannel Contact
-all-ticked x = record { one = ticked (x .one); two = ticked (x .two); three = ticked (x .three); four = ticked (x .four) }
+all-ticked x = each ticked x
 
 -- a second
 abbrev pub second : ℕ → Record → Outcome

@@ -8,12 +8,12 @@ use Rattle.std.specs.declared.option.Option.the-variants.{Some, None}
 use Rattle.bus.specs.declared.frame.Frame.{Frame}
 use Rattle.bus.specs.Frames.{message}
 use Rattle.relay.specs.declared.per_channel.PerChannel.{PerChannel}
+use Rattle.relay.specs.Channels.{each, paired}
 use Rattle.relay.specs.Contacts.{Contact, is-closed, code, time}
 
 -- which contacts are made
 abbrev pub made : PerChannel Contact → PerChannel Bool
-made x =
-    record { one = is-closed (x .one); two = is-closed (x .two); three = is-closed (x .three); four = is-closed (x .four) }
+made x = each is-closed x
 
 -- the status of a channel, by 0xFB with its bit
 abbrev pub status-frame : ℕ → ℕ → Contact → Frame
@@ -34,8 +34,7 @@ abbrev pub differ : Bool → Bool → Bool
 differ was is = cond was (not is) is
 
 abbrev pub changes : PerChannel Bool → PerChannel Bool → PerChannel Bool
-changes was is =
-    record { one = differ (was .one) (is .one); two = differ (was .two) (is .two); three = differ (was .three) (is .three); four = differ (was .four) (is .four) }
+changes was is = paired differ was is
 
 -- the bit where the second is and the first is not
 abbrev pub rise : ℕ → Bool → Bool → ℕ

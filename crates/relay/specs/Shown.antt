@@ -2,6 +2,7 @@
 use Rattle.relay.specs.declared.channel.Channel.{Channel}
 use Rattle.relay.specs.declared.channel.Channel.the-variants.{Open, Closed, Running}
 use Rattle.relay.specs.declared.per_channel.PerChannel.{PerChannel}
+use Rattle.relay.specs.Channels.{each}
 use Rattle.relay.specs.Contacts.{Contact, opened, closed, running}
 
 -- what a channel is
@@ -12,4 +13,4 @@ shown (Running s) = running (s .value)
 
 -- what each channel is
 abbrev pub all-shown : PerChannel Channel → PerChannel Contact
-all-shown x = record { one = shown (x .one); two = shown (x .two); three = shown (x .three); four = shown (x .four) }
+all-shown x = each shown x
