@@ -1,4 +1,6 @@
 // What travels on the bus: frames, the outbox that a module sends them to, and the refusals of the bench.
+#![tactic(auto)]
+
 mod frame;
 mod outbox;
 mod refusal;

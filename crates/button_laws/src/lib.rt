@@ -1,4 +1,6 @@
 // Laws of the button interfaces. Each stands in the contract of a function, so the crate is proved only if the law is.
+#![tactic(auto)]
+
 ghost use Rattle.button_laws.specs.Clocks.{NewClockIsReal, ClockStaysReal, EveryTimeShownIsReal, ClockKeepsTime, ClockIsSet, SetOnlyForAll, ClockIsTold};
 ghost use Rattle.button_laws.specs.Holding.{HoldEnds, HoldStays, LockSetsTheHold, LockEnds, UnlockFrees, SingleRecordObeyed, LockedIgnoresPushes};
 ghost use Rattle.button_laws.specs.Interfaces.{EveryInterface};

@@ -1,4 +1,6 @@
 // Shows how a button of a panel locks a channel of a button interface, which is free again when the time is over.
+#![tactic(auto)]
+
 use anyhow::anyhow;
 use bus::Frame;
 use buttons::ButtonInterface;

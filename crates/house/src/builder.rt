@@ -7,7 +7,7 @@ use station::{Addresses, Station};
 
 // The number of seats, or the builder's fault.
 pub(crate) fn checked_seats<S: Station>(station: &S) -> Result<usize, Refusal>
-    ensures { MatchResult result (λ n. (fault_of (seats station.now) ≡ None) × (n ≡ length (seats station.now))) (λ e. fault_of (seats station.now) ≡ Some e) }
+    ensures { MatchResult result (λ n. (fault_of (S.seats station.now) ≡ None) × (n ≡ length (S.seats station.now))) (λ e. fault_of (S.seats station.now) ≡ Some e) }
 {
     let mut list = Addresses::new();
     station.list_addresses(&mut list);

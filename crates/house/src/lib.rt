@@ -1,4 +1,6 @@
 // A house: one station, the frames that are pending on its bus, and the calls by which a bench works with it.
+#![tactic(auto)]
+
 mod builder;
 mod edge;
 mod house;

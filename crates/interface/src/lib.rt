@@ -1,4 +1,6 @@
 // What the button interfaces share: eight channels that can be locked, the link records that lock them, and a clock.
+#![tactic(auto)]
+
 mod bytes;
 mod holds;
 mod interface;

@@ -44,8 +44,8 @@ Own own g = g.address ≡ own
 own_forms : (own : ℕ) → Forms (Own own) own
 own_forms own = forms own (Own own) (λ g e. e)
 
-pub else-from-own-address : EveryRelay ElseFromOwnAddress
-else-from-own-address s =
+pub else_from_own_address : EveryRelay ElseFromOwnAddress
+else_from_own_address s =
     record {
       second = λ own r. all_second (Own own) own (own_forms own) r;
       push = λ own r p. all_pushed (relay_design s) own r (Own own) p tt;

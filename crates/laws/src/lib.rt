@@ -1,4 +1,6 @@
 // Laws of the relay, the panel and the button interface. Each stands in the contract of a function, so the crate is proved only if the law is.
+#![tactic(auto)]
+
 ghost use Rattle.std.specs.List.{AllByRecursion as All};
 ghost use Rattle.laws.specs.Blocks.{TakesBlockWrites, BlockWritesKeepChannels};
 ghost use Rattle.laws.specs.Kinds.{EveryRelay, EveryPanel, EveryButtons};

@@ -1,5 +1,7 @@
 // What all modules have in common: memory, lamps, buttons, and the seat, which makes a station of a module and an
 // address.
+#![tactic(auto)]
+
 mod buttons;
 mod lamps;
 mod memory;

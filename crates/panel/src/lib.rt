@@ -1,4 +1,6 @@
 // The panel VMB4PD: eight buttons with lamps, and a memory of 256 cells.
+#![tactic(auto)]
+
 mod panel;
 mod rules;
 

@@ -1,4 +1,6 @@
 // Shows how a button of a panel switches a relay, frame by frame.
+#![tactic(auto)]
+
 mod told;
 
 use anyhow::anyhow;

@@ -1,4 +1,6 @@
 // The relay VMB4RY: four channels that obey the buttons linked in its memory of 1,024 cells.
+#![tactic(auto)]
+
 mod action;
 mod channel;
 mod per_channel;

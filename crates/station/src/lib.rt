@@ -1,5 +1,7 @@
 // Stations. A station stands on the bus and has seats, at least one, whose order does not change; a seat is a module at
 // an address. A rail makes one station of two. A sieve shields a station from frames that concern none of its seats.
+#![tactic(auto)]
+
 mod addresses;
 mod event;
 mod listing;

@@ -1,4 +1,6 @@
 // Times: the codes that link records have for them, the hold on a channel, and the clock.
+#![tactic(auto)]
+
 mod clock;
 mod codes;
 mod hold;

@@ -62,8 +62,8 @@ impl<S: Station + Drop> Trace<S> {
 
     // Puts a frame.
     pub fn put(&mut self, rt: &HostRuntime, frame: Frame) -> anyhow::Result<()>
-        ensures seats { seats self.new.house.station ≡ (turn_of seats self.old.house (put frame)).seats }
-        ensures pending { pending_of self.new.house ≡ (turn_of seats self.old.house (put frame)).pending }
+        ensures seats { S.seats self.new.house.station ≡ (turn_of S.seats self.old.house (put frame)).seats }
+        ensures pending { pending_of self.new.house ≡ (turn_of S.seats self.old.house (put frame)).pending }
     {
         let answer = self.house.put(frame);
         self.tell_put(rt, frame, answer)
@@ -97,8 +97,8 @@ impl<S: Station + Drop> Trace<S> {
         channel: u8,
         edge: u8,
     ) -> anyhow::Result<()>
-        ensures seats { seats self.new.house.station ≡ (turn_of seats self.old.house (push address channel edge 144)).seats }
-        ensures pending { pending_of self.new.house ≡ (turn_of seats self.old.house (push address channel edge 144)).pending }
+        ensures seats { S.seats self.new.house.station ≡ (turn_of S.seats self.old.house (push address channel edge 144)).seats }
+        ensures pending { pending_of self.new.house ≡ (turn_of S.seats self.old.house (push address channel edge 144)).pending }
     {
         let mut buffer = [EMPTY; PLACES];
         let answer = self.house.push(address, channel, edge, &mut buffer);
@@ -113,8 +113,8 @@ impl<S: Station + Drop> Trace<S> {
 
     // Lets a second pass.
     pub fn second(&mut self, rt: &HostRuntime) -> anyhow::Result<()>
-        ensures seats { seats self.new.house.station ≡ (turn_of seats self.old.house (second 144)).seats }
-        ensures pending { pending_of self.new.house ≡ (turn_of seats self.old.house (second 144)).pending }
+        ensures seats { S.seats self.new.house.station ≡ (turn_of S.seats self.old.house (second 144)).seats }
+        ensures pending { pending_of self.new.house ≡ (turn_of S.seats self.old.house (second 144)).pending }
     {
         let mut buffer = [EMPTY; PLACES];
         let answer = self.house.second(&mut buffer);
@@ -125,8 +125,8 @@ impl<S: Station + Drop> Trace<S> {
     // Lets seconds pass, and says in one line how many. Before that line come the frames that a second sent, with the
     // number of the second; they pass before the next one.
     pub fn pass(&mut self, rt: &HostRuntime, seconds: u32) -> anyhow::Result<()>
-        ensures led { PassedAtMost seconds (bus_of seats self.old.house) (bus_of seats self.new.house) }
-        ensures all { OnOk result (Passed seconds (bus_of seats self.old.house) (bus_of seats self.new.house)) }
+        ensures led { PassedAtMost seconds (bus_of S.seats self.old.house) (bus_of S.seats self.new.house) }
+        ensures all { OnOk result (Passed seconds (bus_of S.seats self.old.house) (bus_of S.seats self.new.house)) }
     {
         let mut total = 0usize;
         for n in 0..seconds {
@@ -138,7 +138,7 @@ impl<S: Station + Drop> Trace<S> {
 
     // Lets one of so many seconds pass, and then all frames; answers how many the second sent.
     fn pass_one(&mut self, rt: &HostRuntime, n: u32, seconds: u32) -> anyhow::Result<usize>
-        ensures { Stepped (called (second 144) (bus_of seats self.old.house)) (bus_of seats self.new.house) }
+        ensures { Stepped (called (second 144) (bus_of S.seats self.old.house)) (bus_of S.seats self.new.house) }
     {
         let sent = self.nth_second(rt, n, seconds)?;
         self.settle(rt)?;
@@ -147,7 +147,7 @@ impl<S: Station + Drop> Trace<S> {
 
     // Lets one of so many seconds pass; it is shown only where it sends something or is refused.
     fn nth_second(&mut self, rt: &HostRuntime, n: u32, seconds: u32) -> anyhow::Result<usize>
-        ensures { bus_of seats self.new.house ≡ called (second 144) (bus_of seats self.old.house) }
+        ensures { bus_of S.seats self.new.house ≡ called (second 144) (bus_of S.seats self.old.house) }
     {
         let mut buffer = [EMPTY; PLACES];
         let outcome = self.house.second(&mut buffer);
@@ -164,8 +164,8 @@ impl<S: Station + Drop> Trace<S> {
 
     // Steps until no frame is pending, 256 times at most.
     pub fn settle(&mut self, rt: &HostRuntime) -> anyhow::Result<()>
-        ensures led { Stepped (bus_of seats self.old.house) (bus_of seats self.new.house) }
-        ensures quiet { OnOk result ((length (pending_of self.new.house) ≡ 0) ⊎ (bus_of seats self.new.house ≡ steps 256 (bus_of seats self.old.house))) }
+        ensures led { Stepped (bus_of S.seats self.old.house) (bus_of S.seats self.new.house) }
+        ensures quiet { OnOk result ((length (pending_of self.new.house) ≡ 0) ⊎ (bus_of S.seats self.new.house ≡ steps 256 (bus_of S.seats self.old.house))) }
     {
         for n in 0..256u16 {
             if self.house.pending() == 0 {
@@ -178,7 +178,7 @@ impl<S: Station + Drop> Trace<S> {
 
     // Takes the frame that waited longest and lets the seats hear it.
     fn step(&mut self, rt: &HostRuntime) -> anyhow::Result<()>
-        ensures { bus_of seats self.new.house ≡ called (step 144) (bus_of seats self.old.house) }
+        ensures { bus_of S.seats self.new.house ≡ called (step 144) (bus_of S.seats self.old.house) }
     {
         let mut buffer = [EMPTY; PLACES];
         let answer = self.house.step(&mut buffer);

@@ -1,4 +1,6 @@
 // Frames for people: in hexadecimal as a log has them, and in words.
+#![tactic(auto)]
+
 mod buttons;
 mod hex;
 mod in_words;

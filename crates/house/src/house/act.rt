@@ -14,13 +14,13 @@ impl<S: Station> House<S> {
     // Lets the station act on the event, appends what it sends to the pending frames and writes it to the buffer's
     // front. Answers how many frames were sent. The caller has seen to the room.
     pub(super) fn act(&mut self, event: Event, buffer: &mut [Frame]) -> usize
-        requires seats { length (seats self.old.station) ≤ 16 }
-        requires buffer { places (seats self.old.station) ≤ length buffer.old }
-        requires pending { length (pending_of self.old) + places (seats self.old.station) ≤ 256 }
-        ensures sent { result ≡ length (acted event (seats self.old.station) (pending_of self.old)).sent }
-        ensures seats { seats self.new.station ≡ (acted event (seats self.old.station) (pending_of self.old)).seats }
-        ensures pending { pending_of self.new ≡ (acted event (seats self.old.station) (pending_of self.old)).pending }
-        ensures buffer { buffer.new ≡ written (acted event (seats self.old.station) (pending_of self.old)).sent buffer.old }
+        requires seats { length (S.seats self.old.station) ≤ 16 }
+        requires buffer { places (S.seats self.old.station) ≤ length buffer.old }
+        requires pending { length (pending_of self.old) + places (S.seats self.old.station) ≤ 256 }
+        ensures sent { result ≡ length (acted event (S.seats self.old.station) (pending_of self.old)).sent }
+        ensures seats { S.seats self.new.station ≡ (acted event (S.seats self.old.station) (pending_of self.old)).seats }
+        ensures pending { pending_of self.new ≡ (acted event (S.seats self.old.station) (pending_of self.old)).pending }
+        ensures buffer { buffer.new ≡ written (acted event (S.seats self.old.station) (pending_of self.old)).sent buffer.old }
     {
         self.outbox.empty();
         self.station.act(event, &mut self.outbox);

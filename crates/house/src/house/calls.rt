@@ -40,9 +40,9 @@ impl<S: Station> House<S> {
 
     // Puts a frame on the bus.
     pub fn put(&mut self, frame: Frame) -> Result<(), Refusal>
-        ensures answer { shown_put result ≡ (turn_of seats self.old (put frame)).answer }
-        ensures seats { seats self.new.station ≡ (turn_of seats self.old (put frame)).seats }
-        ensures pending { pending_of self.new ≡ (turn_of seats self.old (put frame)).pending }
+        ensures answer { shown_put result ≡ (turn_of S.seats self.old (put frame)).answer }
+        ensures seats { S.seats self.new.station ≡ (turn_of S.seats self.old (put frame)).seats }
+        ensures pending { pending_of self.new ≡ (turn_of S.seats self.old (put frame)).pending }
     {
         if let Some(refusal) = self.refuses_put(&frame) {
             return Err(refusal);
@@ -59,10 +59,10 @@ impl<S: Station> House<S> {
         edge: u8,
         buffer: &mut [Frame],
     ) -> Result<(usize, usize), Refusal>
-        ensures answer { shown_counts result ≡ (turn_of seats self.old (push address channel edge (length buffer.old))).answer }
-        ensures seats { seats self.new.station ≡ (turn_of seats self.old (push address channel edge (length buffer.old))).seats }
-        ensures pending { pending_of self.new ≡ (turn_of seats self.old (push address channel edge (length buffer.old))).pending }
-        ensures buffer { buffer.new ≡ written (turn_of seats self.old (push address channel edge (length buffer.old))).sent buffer.old }
+        ensures answer { shown_counts result ≡ (turn_of S.seats self.old (push address channel edge (length buffer.old))).answer }
+        ensures seats { S.seats self.new.station ≡ (turn_of S.seats self.old (push address channel edge (length buffer.old))).seats }
+        ensures pending { pending_of self.new ≡ (turn_of S.seats self.old (push address channel edge (length buffer.old))).pending }
+        ensures buffer { buffer.new ≡ written (turn_of S.seats self.old (push address channel edge (length buffer.old))).sent buffer.old }
     {
         if let Some(refusal) = self.refuses_push(address, channel, edge, buffer.len()) {
             return Err(refusal);
@@ -79,10 +79,10 @@ impl<S: Station> House<S> {
 
     // A second passes for every seat.
     pub fn second(&mut self, buffer: &mut [Frame]) -> Result<(usize, usize), Refusal>
-        ensures answer { shown_counts result ≡ (turn_of seats self.old (second (length buffer.old))).answer }
-        ensures seats { seats self.new.station ≡ (turn_of seats self.old (second (length buffer.old))).seats }
-        ensures pending { pending_of self.new ≡ (turn_of seats self.old (second (length buffer.old))).pending }
-        ensures buffer { buffer.new ≡ written (turn_of seats self.old (second (length buffer.old))).sent buffer.old }
+        ensures answer { shown_counts result ≡ (turn_of S.seats self.old (second (length buffer.old))).answer }
+        ensures seats { S.seats self.new.station ≡ (turn_of S.seats self.old (second (length buffer.old))).seats }
+        ensures pending { pending_of self.new ≡ (turn_of S.seats self.old (second (length buffer.old))).pending }
+        ensures buffer { buffer.new ≡ written (turn_of S.seats self.old (second (length buffer.old))).sent buffer.old }
     {
         if let Some(refusal) = self.refuses_second(buffer.len()) {
             return Err(refusal);
@@ -93,10 +93,10 @@ impl<S: Station> House<S> {
 
     // Takes the frame that waited longest and lets the seats hear it.
     pub fn step(&mut self, buffer: &mut [Frame]) -> Result<(usize, usize), Refusal>
-        ensures answer { shown_counts result ≡ (turn_of seats self.old (step (length buffer.old))).answer }
-        ensures seats { seats self.new.station ≡ (turn_of seats self.old (step (length buffer.old))).seats }
-        ensures pending { pending_of self.new ≡ (turn_of seats self.old (step (length buffer.old))).pending }
-        ensures buffer { buffer.new ≡ written (turn_of seats self.old (step (length buffer.old))).sent buffer.old }
+        ensures answer { shown_counts result ≡ (turn_of S.seats self.old (step (length buffer.old))).answer }
+        ensures seats { S.seats self.new.station ≡ (turn_of S.seats self.old (step (length buffer.old))).seats }
+        ensures pending { pending_of self.new ≡ (turn_of S.seats self.old (step (length buffer.old))).pending }
+        ensures buffer { buffer.new ≡ written (turn_of S.seats self.old (step (length buffer.old))).sent buffer.old }
     {
         if let Some(refusal) = self.refuses_step(buffer.len()) {
             return Err(refusal);

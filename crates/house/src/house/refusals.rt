@@ -12,7 +12,7 @@ use station::Station;
 
 impl<S: Station> House<S> {
     pub(super) fn refuses_put(&self, frame: &Frame) -> Option<Refusal>
-        ensures { result ≡ first (checks (seats self.now.station) (pending_of self.now) (put frame.now)) }
+        ensures { result ≡ first (checks (S.seats self.now.station) (pending_of self.now) (put frame.now)) }
     {
         if let Err(fault) = checked_seats(&self.station) {
             return Some(fault);
@@ -30,7 +30,7 @@ impl<S: Station> House<S> {
         edge: u8,
         places: usize,
     ) -> Option<Refusal>
-        ensures { result ≡ first (checks (seats self.now.station) (pending_of self.now) (push address channel edge places)) }
+        ensures { result ≡ first (checks (S.seats self.now.station) (pending_of self.now) (push address channel edge places)) }
     {
         if let Err(refusal) = self.seats_to_act(places) {
             return Some(refusal);
@@ -45,7 +45,7 @@ impl<S: Station> House<S> {
     }
 
     pub(super) fn refuses_second(&self, places: usize) -> Option<Refusal>
-        ensures { result ≡ first (checks (seats self.now.station) (pending_of self.now) (second places)) }
+        ensures { result ≡ first (checks (S.seats self.now.station) (pending_of self.now) (second places)) }
     {
         match self.seats_to_act(places) {
             Ok(_) => self.refuses_while_busy(),
@@ -54,7 +54,7 @@ impl<S: Station> House<S> {
     }
 
     pub(super) fn refuses_step(&self, places: usize) -> Option<Refusal>
-        ensures { result ≡ first (checks (seats self.now.station) (pending_of self.now) (step places)) }
+        ensures { result ≡ first (checks (S.seats self.now.station) (pending_of self.now) (step places)) }
     {
         let seats = match self.seats_to_act(places) {
             Ok(seats) => seats,
@@ -72,7 +72,7 @@ impl<S: Station> House<S> {
 
     // The number of seats, or what refuses to let them act with that many places for what they send.
     fn seats_to_act(&self, places: usize) -> Result<usize, Refusal>
-        ensures { MatchResult result (λ n. (first (acting (seats self.now.station) places) ≡ None) × (n ≡ length (seats self.now.station))) (λ e. first (acting (seats self.now.station) places) ≡ Some e) }
+        ensures { MatchResult result (λ n. (first (acting (S.seats self.now.station) places) ≡ None) × (n ≡ length (S.seats self.now.station))) (λ e. first (acting (S.seats self.now.station) places) ≡ Some e) }
     {
         let seats = checked_seats(&self.station)?;
         if places < 9 * seats {

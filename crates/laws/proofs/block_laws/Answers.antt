@@ -4,8 +4,8 @@ use Rattle.laws.proofs.block_laws.Goals as goal
 pub returns : goal.returns
 returns c =
     record {
-      relay-takes-block-writes = every_takes_block_writes.relay;
-      panel-takes-block-writes = every_takes_block_writes.panel;
-      buttons-takes-block-writes = every_takes_block_writes.buttons;
+      relay_takes_block_writes = every_takes_block_writes.relay;
+      panel_takes_block_writes = every_takes_block_writes.panel;
+      buttons_takes_block_writes = every_takes_block_writes.buttons;
       block_writes_keep_channels = block_writes_keep_channels;
     }

@@ -11,7 +11,7 @@ loop-k-preserved c =
     let k = c.loop-k.k in
     let hs = all_held c.loop-k.holds in
     let left : 51 - (k + 1) ≡ 51 - k - 1 = omega arith in
-    ap (in_turn act (k + 1) (51 - (k + 1))) c.obey-link.ensures
+    ap (in_turn act (k + 1) (51 - (k + 1))) c.obey_link.ensures
     ∙ (ap (λ n. in_turn act (k + 1) n (act k hs)) left ∙ (sym (in_turn_more act k (51 - k) hs (omega arith)) ∙ c.loop-k.invariant))
 
 pub returns : goal.returns

@@ -11,6 +11,6 @@ invariant-of-self g c =
     let h = c.args.self.now in
     let fails = none_applies (checks (g.S.Station.seats h.station) (pending_of h) (put c.args.frame)) c.in-default.ensures in
     let quiet : length (pending_of h) ≤ 0 = ltb-false 0 _ fails.1.1.1.1.0 in (
-      omega (arith, quiet, h.pending.ok.0, c.push-back-reserved.ensures.len),
-      (omega (arith, h.places, c.push-back-reserved.ensures.capacity), (h.outgoing, tt)),
+      omega (arith, quiet, h.pending.ok.0, c.push_back_reserved.ensures.len),
+      (omega (arith, h.places, c.push_back_reserved.ensures.capacity), (h.outgoing, tt)),
     )

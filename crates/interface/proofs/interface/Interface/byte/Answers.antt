@@ -14,7 +14,7 @@ returns-then-place c =
     let front = cells ++ take 16 state in
     let here : i < length front = omega (arith, length-append cells (take 16 state), c.args.self.now.memory.full) in
     c.byte.ensures
-    ∙ (ap (λ s. nth i (cells ++ s)) c.first-half.ensures
+    ∙ (ap (λ s. nth i (cells ++ s)) c.first_half.ensures
     ∙ (cond-true (ltb i (length front)) _ _ (lt-ltb _ _ here) ∙ (nth_left front (drop 16 state) i here ∙ ap (nth i) (append_assoc cells (take 16 state) (drop 16 state)))))
 
 pub returns-else-place : goal.returns-else-place
@@ -24,6 +24,6 @@ returns-else-place c =
     let state = encoded (state_of c.args.self.now) in
     let front = cells ++ take 16 state in
     let long : length front ≡ 1040 = omega (arith, length-append cells (take 16 state), c.args.self.now.memory.full) in
-    c.byte-at.ensures
-    ∙ (ap (nth (i - 1040)) c.second-half.ensures
+    c.byte_at.ensures
+    ∙ (ap (nth (i - 1040)) c.second_half.ensures
     ∙ (nth_right front (drop 16 state) i 1040 long (omega arith) ∙ ap (nth i) (append_assoc cells (take 16 state) (drop 16 state))))

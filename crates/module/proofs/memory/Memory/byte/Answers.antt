@@ -7,4 +7,4 @@ returns-then-place g c = nth_left c.args.self.now.cells c.args.state.now c.args.
 
 pub returns-else-place : goal.returns-else-place
 returns-else-place g c =
-    c.byte-at.ensures ∙ nth_right c.args.self.now.cells c.args.state.now c.args.place g.row.N c.args.self.now.full (omega arith)
+    c.byte_at.ensures ∙ nth_right c.args.self.now.cells c.args.state.now c.args.place g.row.N c.args.self.now.full (omega arith)

@@ -20,8 +20,8 @@ returns c =
     let r = content c.args.self.now in
     let told : contacts r ≡ all_shown c.args.self.now.channels = decoded r.cells (all_shown c.args.self.now.channels) in
     let was : c.made-was.result ≡ made (contacts r) = c.made-was.ensures ∙ ap made (sym told) in
-    let is : all_shown c.carry-out.new.self ≡ carried_out (commanded f) (named_channels f) (contacts r) =
-    c.carry-out.ensures ∙ (λ i. carried_out (c.commanded.ensures i) (c.named_channels.ensures i) (sym told i)) in
+    let is : all_shown c.carry_out.new.self ≡ carried_out (commanded f) (named_channels f) (contacts r) =
+    c.carry_out.ensures ∙ (λ i. carried_out (c.commanded.ensures i) (c.named_channels.ensures i) (sym told i)) in
     record {
       design = refl;
       after = λ i. record { cells = c.obey.ensures.after i; state = state_of (is i) };

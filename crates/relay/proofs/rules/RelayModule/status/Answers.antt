@@ -8,9 +8,9 @@ use Rattle.relay.proofs.Decoded.{decoded}
 use Rattle.relay.specs.Sent.{five_reported}
 use Rattle.relay.proofs.rules.RelayModule.status.Goals as goal
 
-pub send-lamps-requires : goal.send-lamps-requires
-send-lamps-requires c =
-    room_left 5 4 c.report.ensures (five_reported c.args.own c.made-was.result (all_shown c.obey-pairs.new.self)) (omega (arith, c.requires))
+pub send_lamps-requires : goal.send_lamps-requires
+send_lamps-requires c =
+    room_left 5 4 c.report.ensures (five_reported c.args.own c.made-was.result (all_shown c.obey_pairs.new.self)) (omega (arith, c.requires))
 
 pub returns : goal.returns
 returns c =
@@ -20,15 +20,15 @@ returns c =
     let found : c.pairs-pairs.result ≡ pairs r.cells f = c.pairs-pairs.ensures in
     let told : contacts r ≡ all_shown c.args.self.now.channels = decoded r.cells (all_shown c.args.self.now.channels) in
     let was : c.made-was.result ≡ made (contacts r) = c.made-was.ensures ∙ ap made (sym told) in
-    let is : all_shown c.obey-pairs.new.self ≡ by_pairs c.args.self.now.setup.timers (pairs r.cells f) (contacts r) =
-    c.obey-pairs.ensures ∙ (λ i. by_pairs c.args.self.now.setup.timers (found i) (sym told i)) in
+    let is : all_shown c.obey_pairs.new.self ≡ by_pairs c.args.self.now.setup.timers (pairs r.cells f) (contacts r) =
+    c.obey_pairs.ensures ∙ (λ i. by_pairs c.args.self.now.setup.timers (found i) (sym told i)) in
     let lit : c.made.result ≡ made (by_pairs c.args.self.now.setup.timers (pairs r.cells f) (contacts r)) = c.made.ensures ∙ ap made is in
     let bits : c.all_bits.result ≡ all_bits r.cells (pairs r.cells f) = c.all_bits.ensures ∙ ap (all_bits r.cells) found in
     record {
       design = refl;
       after = λ i. record { cells = r.cells; state = state_of (is i) };
       sent =
-          subst (λ t. Sends c.args.out.now c.send-lamps.new.out t)
+          subst (λ t. Sends c.args.out.now c.send_lamps.new.out t)
           (λ i. report own (was i) (is i) ++ lamps f.address (was i) (lit i) (bits i))
-          (sends_both c.report.ensures c.send-lamps.ensures);
+          (sends_both c.report.ensures c.send_lamps.ensures);
     }

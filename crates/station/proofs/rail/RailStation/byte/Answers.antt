@@ -5,18 +5,18 @@ use Rattle.std.proofs.lemmas.Bool.{ltb-true, ltb-false}
 use Rattle.station.specs.SeatsLemmas.{first_at_left, first_at_right}
 use Rattle.station.proofs.rail.RailStation.byte.Goals as goal
 
-pub returns-then-has-first : goal.returns-then-has-first
-returns-then-has-first g c =
+pub returns-then-has_first : goal.returns-then-has_first
+returns-then-has_first g c =
     let a = c.args.address in
     let xs = g.A.Station.seats c.args.self.now.first in
     let ys = g.B.Station.seats c.args.self.now.second in
-    let some : 0 < count_at a xs = ltb-true 0 (count_at a xs) (sym c.if-has-first.ensures) in
+    let some : 0 < count_at a xs = ltb-true 0 (count_at a xs) (sym c.if-has_first.ensures) in
     c.byte.ensures ∙ sym (ap (asked None (λ s. nth c.args.place (bytes s.content))) (first_at_left a xs ys some))
 
-pub returns-else-has-first : goal.returns-else-has-first
-returns-else-has-first g c =
+pub returns-else-has_first : goal.returns-else-has_first
+returns-else-has_first g c =
     let a = c.args.address in
     let xs = g.A.Station.seats c.args.self.now.first in
     let ys = g.B.Station.seats c.args.self.now.second in
-    let none : count_at a xs ≡ 0 = omega (arith, ltb-false 0 (count_at a xs) (sym c.if-has-first.ensures)) in
-    c.byte-else-has-first.ensures ∙ sym (ap (asked None (λ s. nth c.args.place (bytes s.content))) (first_at_right a xs ys none))
+    let none : count_at a xs ≡ 0 = omega (arith, ltb-false 0 (count_at a xs) (sym c.if-has_first.ensures)) in
+    c.byte-else-has_first.ensures ∙ sym (ap (asked None (λ s. nth c.args.place (bytes s.content))) (first_at_right a xs ys none))

@@ -7,4 +7,4 @@ pub returns : goal.returns
 returns g c =
     let xs = g.A.Station.seats c.args.self.now.first in
     let ys = g.B.Station.seats c.args.self.now.second in
-    c.list-addresses-2.ensures ∙ (ap (listed ys) c.list-addresses.ensures ∙ sym (listed-append xs ys c.args.list.now))
+    c.list_addresses-2.ensures ∙ (ap (listed ys) c.list_addresses.ensures ∙ sym (listed-append xs ys c.args.list.now))

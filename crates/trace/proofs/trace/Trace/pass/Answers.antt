@@ -6,10 +6,10 @@ use Rattle.trace.proofs.trace.Trace.pass.Goals as goal
 pub loop-n-preserved : goal.loop-n-preserved
 loop-n-preserved g c =
     let bus = bus_of g.S.Station.seats in
-    passed_more c.loop-n.n (bus c.args.self.now.house) (bus c.loop-n.self.house) (bus c.pass-one.new.self.house) c.loop-n.invariant c.pass-one.ensures
+    passed_more c.loop-n.n (bus c.args.self.now.house) (bus c.loop-n.self.house) (bus c.pass_one.new.self.house) c.loop-n.invariant c.pass_one.ensures
 
-pub returns-in-err-pass-one : goal.returns-in-err-pass-one
-returns-in-err-pass-one g c =
+pub returns-in-err-pass_one : goal.returns-in-err-pass_one
+returns-in-err-pass_one g c =
     let bus = bus_of g.S.Station.seats in
-    let more = passed_more c.loop-n.n (bus c.args.self.now.house) (bus c.loop-n.self.house) (bus c.pass-one.new.self.house) c.loop-n.invariant c.pass-one.ensures in
+    let more = passed_more c.loop-n.n (bus c.args.self.now.house) (bus c.loop-n.self.house) (bus c.pass_one.new.self.house) c.loop-n.invariant c.pass_one.ensures in
     record { led = (c.loop-n.n + 1, omega arith, more); all = search rules }

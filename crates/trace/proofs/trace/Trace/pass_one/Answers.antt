@@ -4,12 +4,12 @@ use Rattle.trace.proofs.Steps.{steps_none}
 use Rattle.trace.proofs.trace.Trace.pass_one.Goals as goal
 
 pub returns-in-err-sent : goal.returns-in-err-sent
-returns-in-err-sent g c = (0, omega arith, c.nth-second.ensures ∙ steps_none _)
+returns-in-err-sent g c = (0, omega arith, c.nth_second.ensures ∙ steps_none _)
 
 pub returns-in-err-settle : goal.returns-in-err-settle
 returns-in-err-settle g c =
-    let led = c.settle.ensures.led in (led.0, led.1, led.2 ∙ ap (steps led.0) c.nth-second.ensures)
+    let led = c.settle.ensures.led in (led.0, led.1, led.2 ∙ ap (steps led.0) c.nth_second.ensures)
 
 pub returns : goal.returns
 returns g c =
-    let led = c.settle.ensures.led in (led.0, led.1, led.2 ∙ ap (steps led.0) c.nth-second.ensures)
+    let led = c.settle.ensures.led in (led.0, led.1, led.2 ∙ ap (steps led.0) c.nth_second.ensures)
