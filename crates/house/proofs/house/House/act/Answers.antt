@@ -23,19 +23,18 @@ append-requires g c =
       pending = omega (arith, few, sent, c.requires.pending, c.args.self.now.pending.ok.0, c.args.self.now.places);
     }
 
-pub invariant-of-self : goal.invariant-of-self
-invariant-of-self g c =
+pub invariant_of-self : goal.invariant_of-self
+invariant_of-self g c =
     let ss = g.S.Station.seats c.args.self.now.station in
     let few = few_sent c.args.event ss (g.met.S.Station.stands c.args.self.now.station).1 in
     let fs = sent_all c.args.event ss in
     let sent : length c.frames-sent.result.now ≡ length fs =
-    ap length (held c.empty.new.self c.act.new.out fs c.frames-sent.result.now c.empty.ensures.frames c.act.ensures.sent c.frames-sent.ensures) in (
-      omega (arith, few, sent, c.requires.pending, c.args.self.now.pending.ok.0, c.append.ensures.len),
-      (
-        omega (arith, c.append.ensures.capacity, c.args.self.now.places),
-        (omega (arith, c.act.ensures.sent.same_room, c.empty.ensures.room, c.args.self.now.outgoing), tt),
-      ),
-    )
+    ap length (held c.empty.new.self c.act.new.out fs c.frames-sent.result.now c.empty.ensures.frames c.act.ensures.sent c.frames-sent.ensures) in
+    record {
+      few = omega (arith, few, sent, c.requires.pending, c.args.self.now.pending.ok.0, c.append.ensures.len);
+      places = omega (arith, c.append.ensures.capacity, c.args.self.now.places);
+      outgoing = omega (arith, c.act.ensures.sent.same_room, c.empty.ensures.room, c.args.self.now.outgoing);
+    }
 
 pub returns : goal.returns
 returns g c =

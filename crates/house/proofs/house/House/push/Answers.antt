@@ -11,7 +11,7 @@ act-sent-requires g c =
     let h = c.args.self.now in
     let ss = g.S.Station.seats h.station in
     let call = push c.args.address c.args.channel c.args.edge (length c.args.buffer.now) in
-    let fails = none_applies (checks ss (pending_of h) call) c.in-default.ensures in
+    let fails = none_applies (checks ss (pending_of h) call) c.in_default.ensures in
     let few : length ss ≤ 16 = ltb-false 16 _ fails.1.1.0 in
     let quiet : length (pending_of h) ≤ 0 = ltb-false 0 _ fails.1.1.1.1.1.1.0 in
     record { seats = few; buffer = ltb-false _ _ fails.1.1.1.0; pending = omega arith }
