@@ -1,4 +1,4 @@
-mod Kinds
+mod EveryModule
 mod Sending
 mod Pairs
 mod LampFrames

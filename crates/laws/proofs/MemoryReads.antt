@@ -11,7 +11,7 @@ use Rattle.module.specs.Designs.{Design, answered, designed}
 use Rattle.module.specs.Memories.{cell_frame, block_frame, in_memory, memory_sent}
 use Rattle.laws.specs.Blocks.{block}
 use Rattle.laws.specs.MemoryReads.{CellsRead, AnswersReads, ReadsBack}
-use Rattle.laws.proofs.Kinds.{EveryModule}
+use Rattle.laws.proofs.EveryModule.{EveryModule}
 use Rattle.module.proofs.Answered.{at_own}
 use Rattle.laws.proofs.Blocks.{takes_block_writes}
 use Rattle.laws.proofs.Cells.{length-put, four, four-put, take_one, take_four}

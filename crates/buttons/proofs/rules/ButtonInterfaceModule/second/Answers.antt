@@ -14,5 +14,5 @@ returns c =
     record {
       design = refl;
       after = λ j. record { cells = c.second.ensures.cells j; state = encoded (state j) };
-      sent = sends_none c.args.-out.now [] refl;
+      sent = sends_none c.args._out.now [] refl;
     }
