@@ -2,6 +2,7 @@
 use Rattle.std.specs.Prelude.{◌≡◌, ℕ, zero, suc, ◌≤◌, List}
 use Rattle.bus.specs.declared.frame.Frame.{Frame}
 use Rattle.station.specs.Kinds.{Seat}
+use Rattle.station.specs.declared.station.Station.{Ghosts}
 use Rattle.house.specs.declared.house.House.{House}
 use Rattle.house.specs.Calls.{Call, second, step}
 use Rattle.house.specs.Houses.{pending_of}
@@ -12,7 +13,7 @@ pub record Bus : Type 0 where
   pub seats : List Seat
   pub pending : List Frame
 
-abbrev pub bus_of : {S : Type 0} → (S → List Seat) → House S → Bus
+abbrev pub bus_of : {S : Type 0} {G : Ghosts S} → (S → List Seat) → House S G → Bus
 bus_of seats h = record { seats = seats h.station; pending = pending_of h }
 
 -- after a call

@@ -11,7 +11,7 @@ pub loop-n-preserved : goal.loop-n-preserved
 loop-n-preserved g c =
     c.step.ensures ∙ (ap (called (step 144)) c.loop-n.invariant ∙ steps_more c.loop-n.n (bus_of g.S.Station.seats c.args.self.now.house))
 
-pub returns-in-err-step : goal.returns-in-err-step
-returns-in-err-step g c =
+pub returns-in_err-step : goal.returns-in_err-step
+returns-in_err-step g c =
     let more = c.step.ensures ∙ (ap (called (step 144)) c.loop-n.invariant ∙ steps_more c.loop-n.n (bus_of g.S.Station.seats c.args.self.now.house)) in
     record { led = (c.loop-n.n + 1, omega arith, more); quiet = search rules }
