@@ -104,13 +104,17 @@ pub(crate) enum Input {
 }
 
 // Does each input on a new house with the panel and the relay; the frames sent must be these, in order.
-pub(crate) fn case(rt: &HostRuntime, inputs: &[Input], expected: &[[u8; 12]]) -> Result<(), Fail> {
+pub(crate) fn case(
+    rt: &(impl Abort + AllocGlobal),
+    inputs: &[Input],
+    expected: &[[u8; 12]],
+) -> Result<(), Fail> {
     check_case(rt, modules(), inputs, expected)
 }
 
 // The same with the panel and the button interface.
 pub(crate) fn button_case(
-    rt: &HostRuntime,
+    rt: &(impl Abort + AllocGlobal),
     inputs: &[Input],
     expected: &[[u8; 12]],
 ) -> Result<(), Fail> {
@@ -119,7 +123,7 @@ pub(crate) fn button_case(
 
 // After each input all frames pass.
 fn check_case<S: Station + Drop>(
-    rt: &HostRuntime,
+    rt: &(impl Abort + AllocGlobal),
     station: S,
     inputs: &[Input],
     expected: &[[u8; 12]],
@@ -130,9 +134,9 @@ fn check_case<S: Station + Drop>(
         act(&mut house, *input, &mut sent)?;
         settle(&mut house, &mut sent)?;
     }
-    assert_eq!(sent.len(), expected.len());
+    assert_eq!(rt; sent.len(), expected.len());
     for (got, body) in sent.iter().zip(expected.iter()) {
-        assert_eq!(*got, frame(*body));
+        assert_eq!(rt; *got, frame(*body));
     }
     Ok(())
 }
