@@ -34,9 +34,9 @@ no_button ss address channel edge = ((channel == 0 || nat_lt (first_buttons addr
 -- what refuses a call, in order
 abbrev pub checks : List Seat → List Frame → Call → Checks
 checks ss q (put f) = builder ss ++ (not (well_formed f), IllFormedFrame) ∷ busy q ∷ []
-checks ss q (push a c e n) = acting ss n ++ ((count_at a ss == 0), NoSuchSeat) ∷ no_button ss a c e ∷ busy q ∷ []
+checks ss q (push a c e n) = acting ss n ++ (count_at a ss == 0, NoSuchSeat) ∷ no_button ss a c e ∷ busy q ∷ []
 checks ss q (second n) = acting ss n ++ busy q ∷ []
-checks ss q (step n) = acting ss n ++ ((length q == 0), NothingPending) ∷ (nat_lt 256 ((length q - 1) + places ss), NoRoom) ∷ []
+checks ss q (step n) = acting ss n ++ (length q == 0, NothingPending) ∷ (nat_lt 256 ((length q - 1) + places ss), NoRoom) ∷ []
 checks ss q clear = builder ss
 checks ss q («record» a n) = []
 

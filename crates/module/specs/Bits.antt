@@ -1,6 +1,6 @@
 -- The bits of a byte. Assumes nothing.
 use Rattle.std.specs.Prelude.{ℕ, Bool, not, ◌==◌, bit_and}
 
--- a byte has one of some bits
+-- of some bits, one is a bit of another byte
 abbrev pub has_bit : ℕ → ℕ → Bool
-has_bit byte bits = not (bit_and byte bits == 0)
+has_bit bits bit = not (bit_and bits bit == 0)

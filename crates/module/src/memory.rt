@@ -2,7 +2,7 @@
 ghost use Rattle.std.specs.Prelude.{◌≡◌, ◌+◌, ◌^◌, ◌<◌, ◌≤◌, [], ◌∷◌, ◌++◌, length, replicate, nat_le, slice_index};
 ghost use Rattle.bus.specs.Frames.{byte};
 ghost use Rattle.bus.specs.Outboxes.{Room, Sends};
-ghost use Rattle.station.specs.Rules.{cell as cell-number, put, stored};
+ghost use Rattle.station.specs.Rules.{cell as cell_number, put, stored};
 ghost use Rattle.station.specs.Seats.{nth};
 ghost use Rattle.module.specs.Memories.{cell_frame, block_frame, memory_sent};
 
@@ -17,7 +17,7 @@ pub struct Memory<const N: usize> {
 
 // The cell that a memory command names, high byte first.
 fn cell_of(frame: &Frame) -> usize
-    ensures value { result ≡ cell-number frame.now }
+    ensures value { result ≡ cell_number frame.now }
     ensures bound { result < 65536 }
 {
     usize::from(frame.bytes[1]) * 256 + usize::from(frame.bytes[2])
@@ -80,7 +80,7 @@ impl<const N: usize> Memory<N> {
 
     // One cell as a frame.
     fn cell_frame(&self, own: u8, frame: &Frame, cell: usize) -> Frame
-        requires { (cell < N) × (cell ≡ cell-number frame.now) }
+        requires { (cell < N) × (cell ≡ cell_number frame.now) }
         ensures { result ≡ cell_frame own frame.now self.now.cells }
     {
         Frame::new(
@@ -102,7 +102,7 @@ impl<const N: usize> Memory<N> {
 
     // Four cells as a frame.
     fn block_frame(&self, own: u8, frame: &Frame, cell: usize) -> Frame
-        requires { (cell + 4 ≤ N) × (cell ≡ cell-number frame.now) }
+        requires { (cell + 4 ≤ N) × (cell ≡ cell_number frame.now) }
         ensures { result ≡ block_frame own frame.now self.now.cells }
     {
         Frame::new(

@@ -1,5 +1,5 @@
 -- How the panel is designed, and what a panel remembers. Assumes nothing.
-use Rattle.std.specs.Prelude.{false, cond, ◌&&◌, List, [], ◌∷◌, ◌++◌, ℕ, eqb, get_or}
+use Rattle.std.specs.Prelude.{false, cond, ◌&&◌, List, [], ◌∷◌, ◌++◌, ◌==◌, ℕ, slice_index}
 use Rattle.bus.specs.declared.frame.Frame.{Frame}
 use Rattle.bus.specs.Frames.{is_command, message}
 use Rattle.station.specs.declared.event.Edge.{Edge}
@@ -19,10 +19,10 @@ abbrev pub state_of : Lamps → ℕ → List ℕ
 state_of l pressed = l.on ∷ l.slow ∷ l.fast ∷ pressed ∷ []
 
 abbrev pub lamps : Record → Lamps
-lamps r = record { on = get_or r.state 0 0; slow = get_or r.state 1 0; fast = get_or r.state 2 0 }
+lamps r = record { on = slice_index r.state 0; slow = slice_index r.state 1; fast = slice_index r.state 2 }
 
 abbrev pub pressed : Record → ℕ
-pressed r = get_or r.state 3 0
+pressed r = slice_index r.state 3
 
 -- 0xFA asks for the status, 0xED
 abbrev pub status_sent : ℕ → Lamps → ℕ → Frame → List Frame
@@ -31,7 +31,7 @@ status_sent own l pressed f = cond (is_command 0xFA 2 f) (message 3 own (0xED �
 -- RTR asks for the type, 0xFF with 0x0B
 abbrev pub type_sent : ℕ → PanelSetup → Lamps → Frame → List Frame
 type_sent own s l f =
-    cond (eqb f.rtr 1 && eqb f.count 0) (message 3 own (0xFF ∷ 0x0B ∷ l.on ∷ l.slow ∷ l.fast ∷ s.year ∷ s.week ∷ 0 ∷ []) ∷ []) []
+    cond (f.rtr == 1 && f.count == 0) (message 3 own (0xFF ∷ 0x0B ∷ l.on ∷ l.slow ∷ l.fast ∷ s.year ∷ s.week ∷ 0 ∷ []) ∷ []) []
 
 -- a frame with the own address; each kind of command does its part, and no two know the same frame
 abbrev pub command : PanelSetup → ℕ → Record → Frame → Outcome

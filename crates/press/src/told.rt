@@ -1,4 +1,4 @@
-// What the modules last told.
+// What the frames on the bus last told of the modules.
 use bus::Frame;
 
 // The bits of the contacts that are closed, and of the lamps that shine.

@@ -4,7 +4,7 @@ use Rattle.bus.specs.Outboxes.{Sends}
 use Rattle.bus.proofs.Outboxes.{sends_both, room_left}
 use Rattle.station.specs.Kinds.{after, sent}
 use Rattle.station.specs.Seats.{after_all}
-use Rattle.station.specs.SeatsLemmas.{few_sent, joined-append}
+use Rattle.station.specs.SeatsLemmas.{few_sent, flat_map-append}
 use Rattle.station.proofs.rail.act_in_turn.Goals as goal
 
 pub act-requires : goal.act-requires
@@ -30,5 +30,5 @@ returns g c =
     let all = map-append (after e) xs ys in
     record {
       after = ap (λ t. t ++ g.B.Station.seats c.act-2.new.self) c.act.ensures.after ∙ (ap (λ t. f xs ++ t) c.act-2.ensures.after ∙ sym all);
-      sent = subst (λ t. Sends c.args.out.now c.act-2.new.out t) (sym (joined-append (sent e) xs ys)) (sends_both c.act.ensures.sent c.act-2.ensures.sent);
+      sent = subst (λ t. Sends c.args.out.now c.act-2.new.out t) (sym (flat_map-append (sent e) xs ys)) (sends_both c.act.ensures.sent c.act-2.ensures.sent);
     }
