@@ -1,7 +1,7 @@
 -- The clock shows real times and keeps time. Assumes nothing.
 use Rattle.std.proofs.Common.{◌≡◌, ℕ, suc, ◌+◌, ◌%◌, ◌<◌, Bool, true, false, cond, ◌&&◌, ◌||◌, eqb, ltb, List, [], ◌∷◌, ◌++◌, sym, refl, ap, ◌∙◌, subst, inl, inr, arith}
 use lib.Bits.{bit_and}
-use Rattle.std.specs.List.{AllByRecursion as All}
+use Rattle.std.specs.List.{AllByRecursion}
 use Rattle.std.proofs.lemmas.Bool.{false≢true, both_ways, cond-true, cond-false, cond_both, and_parts, and_from, and_left, or_from, lt-ltb, ltb-true, eq-eqb, eqb-true, eqb-false, ne_eqb}
 use Rattle.bus.specs.declared.frame.Frame.{Frame}
 use Rattle.bus.specs.Frames.{byte, is_command, message}
@@ -108,16 +108,16 @@ told_real : (own : ℕ) (t : Time) → Real t → TellsRealTime (message 3 own (
 told_real own t h e =
     and_from (ltb t.day 7) (ltb t.hour 24 && ltb t.minute 60) (lt-ltb _ _ h.day) (and_from (ltb t.hour 24) (ltb t.minute 60) (lt-ltb _ _ h.hour) (lt-ltb _ _ h.minute))
 
-shown_real : (m : Model) (s : InterfaceSetup) (own : ℕ) (r : Record) (e : Event) → Real (time r) → All TellsRealTime ((interface_kind m s).acts own r e).sent
+shown_real : (m : Model) (s : InterfaceSetup) (own : ℕ) (r : Record) (e : Event) → Real (time r) → AllByRecursion TellsRealTime ((interface_kind m s).acts own r e).sent
 shown_real m s own r (Heard f) h =
     let x = decoded r.state in
-    let Q : Outcome → Type 0 = λ o. All TellsRealTime o.sent in
+    let Q : Outcome → Type 0 = λ o. AllByRecursion TellsRealTime o.sent in
     cond_both (eqb f.address own) _ _ Q (λ _. all_command TellsRealTime m s own (forms own) r.cells x f (told_real own x.clock h))
     (λ _. cond_both (eqb f.address 0) _ _ Q (λ _. all_clock TellsRealTime m s own (forms own) x.clock f (told_real own x.clock h))
     (λ _. cond_both (from_link (interface_kind m s) own r f) _ _ Q (λ _. tt) (λ _. tt)))
 shown_real m s own r Second h = tt
 shown_real m s own r (Pushed p) h =
-    cond_both (eqb p.address own) _ _ (λ (o : Outcome). All TellsRealTime o.sent)
+    cond_both (eqb p.address own) _ _ (λ (o : Outcome). AllByRecursion TellsRealTime o.sent)
     (λ _. all_pushed TellsRealTime m s own (forms own) (decoded r.state) p.channel p.edge) (λ _. tt)
 
 pub every_time_shown_is_real : EveryInterface EveryTimeShownIsReal

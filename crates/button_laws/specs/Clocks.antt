@@ -1,6 +1,6 @@
 -- What the clock of a button interface shows. Assumes nothing.
 use Rattle.std.specs.Prelude.{◌≡◌, ℕ, ◌+◌, ◌*◌, ◌%◌, Bool, true, false, ◌&&◌, ◌⊎◌, List, [], ◌∷◌, replicate, ◌==◌, ◌≢◌}
-use Rattle.std.specs.List.{AllByRecursion as All}
+use Rattle.std.specs.List.{AllByRecursion}
 use Rattle.bus.specs.declared.frame.Frame.{Frame}
 use Rattle.bus.specs.Frames.{byte, is_command, message}
 use Rattle.station.specs.declared.event.Event.{Event}
@@ -27,7 +27,7 @@ TellsRealTime g = is_command 0xD8 4 g ≡ true → real (byte g 1) (byte g 2) (b
 -- so does each frame that is sent, whatever happened before
 abbrev pub EveryTimeShownIsReal : Model → Kind → Type 0
 EveryTimeShownIsReal m kind =
-    (own : ℕ) (r : Record) (es : List Event) (e : Event) → Real (time r) → All TellsRealTime (kind.acts own (later kind own r es) e).sent
+    (own : ℕ) (r : Record) (es : List Event) (e : Event) → Real (time r) → AllByRecursion TellsRealTime (kind.acts own (later kind own r es) e).sent
 
 -- the seconds since the start of the week
 abbrev pub second_of_week : Time → ℕ

@@ -1,6 +1,6 @@
 -- What the list of all addresses shows. Assumes nothing.
 use Rattle.std.proofs.Common.{◌≡◌, ℕ, ◌+◌, ◌<◌, ◌≤◌, min, Bool, true, false, cond, ◌||◌, eqb, ltb, List, [], ◌∷◌, length, get_or, set, is_some, None, sym, refl, ap, ◌∙◌, inl, inr, arith, length-set}
-use Rattle.std.specs.List.{AllByRecursion as All}
+use Rattle.std.specs.List.{AllByRecursion}
 use Rattle.std.proofs.lemmas.List.{get_or-set_same, get_or-set_other, get_or-replicate}
 use Rattle.std.proofs.lemmas.Bool.{eqb-true, eqb-false, ltb-false, cases_Bool, true≢false}
 use Rattle.std.proofs.lemmas.Bool.Decides.{nat_tests}
@@ -69,7 +69,7 @@ shuffle false false true true d = refl
 shuffle false false true false d = refl
 shuffle false false false c d = ap (λ x. x || d) (sym (or_false c))
 
-twice_is : (ss : List Seat) (r : Addresses) → length r.seated ≡ 256 → All Sound ss → (listed ss r).twice ≡ (r.twice || (seen r ss || address_twice ss))
+twice_is : (ss : List Seat) (r : Addresses) → length r.seated ≡ 256 → AllByRecursion Sound ss → (listed ss r).twice ≡ (r.twice || (seen r ss || address_twice ss))
 twice_is [] r l h = or_false r.twice
 twice_is (s ∷ ss) r l h =
     let a = s.address in
@@ -78,7 +78,7 @@ twice_is (s ∷ ss) r l h =
     ∙ (ap (λ t. (r.twice || get_or r.seated a false) || (t || address_twice ss)) (seen_added a r ss within)
     ∙ shuffle r.twice (get_or r.seated a false) (seen r ss) (ltb 0 (count_at a ss)) (address_twice ss))
 
-none_seen : (ss : List Seat) → All Sound ss → seen no_addresses ss ≡ false
+none_seen : (ss : List Seat) → AllByRecursion Sound ss → seen no_addresses ss ≡ false
 none_seen [] h = refl
 none_seen (s ∷ ss) h = ap (λ t. t || seen no_addresses ss) (get_or-replicate 256 s.address false false h.0.0) ∙ none_seen ss h.1
 
@@ -89,7 +89,7 @@ few_since true b true h = absurd (true≢false (ap is_some h))
 few_since false true true h = absurd (true≢false (ap is_some h))
 few_since false false true h = absurd (true≢false (ap is_some h))
 
-module _ (ss : List Seat) (sound : All Sound ss) where
+module _ (ss : List Seat) (sound : AllByRecursion Sound ss) where
   pub fault_listed : faulted (listed ss no_addresses) ≡ fault_of ss
   fault_listed =
       let out : (listed ss no_addresses).outside ≡ bad_address ss = outside_is ss no_addresses in

@@ -1,6 +1,6 @@
 -- What follows from the first check that applies, and from none applying. Assumes nothing.
 use Rattle.std.proofs.Common.{◌≡◌, ℕ, ◌<◌, ◌≤◌, Bool, true, false, cond, [], ◌∷◌, ◌++◌, Some, None, refl, ap, arith}
-use Rattle.std.specs.List.{AllByRecursion as All}
+use Rattle.std.specs.List.{AllByRecursion}
 use Rattle.std.proofs.ByRecursion.{All-weaker}
 use Rattle.bus.specs.declared.refusal.Refusal.{Refusal}
 use Rattle.bus.specs.Refusals.{number}
@@ -12,11 +12,11 @@ some_none : {A : Type 0} (x : A) → None ≡ Some x → ⊥
 some_none x e = let z : ◌≡◌ {A = ℕ} 0 1 = cc in omega arith
 
 -- where no check applies, each fails
-pub none_applies : (cs : Checks) → None ≡ first cs → All (λ c. c.0 ≡ false) cs
+pub none_applies : (cs : Checks) → None ≡ first cs → AllByRecursion (λ c. c.0 ≡ false) cs
 none_applies [] h = tt
 none_applies (c ∷ cs) h = by c.0 h (none_applies cs)
   where
-    by : (b : Bool) → None ≡ cond b (Some c.1) (first cs) → (None ≡ first cs → All (λ d. d.0 ≡ false) cs) → (b ≡ false) × All (λ d. d.0 ≡ false) cs
+    by : (b : Bool) → None ≡ cond b (Some c.1) (first cs) → (None ≡ first cs → AllByRecursion (λ d. d.0 ≡ false) cs) → (b ≡ false) × AllByRecursion (λ d. d.0 ≡ false) cs
     by true e rest = absurd (some_none c.1 e)
     by false e rest = (refl, rest e)
 
@@ -31,7 +31,7 @@ first_before (c ∷ cs) ds r h = by c.0 h (first_before cs ds r)
 
 -- no refusal that applies has a smaller number
 abbrev Least : Refusal → Checks → Type 0
-Least r cs = All (λ d. d.0 ≡ true → number r ≤ number d.1) cs
+Least r cs = AllByRecursion (λ d. d.0 ≡ true → number r ≤ number d.1) cs
 
 -- where the numbers rise, the first that applies is the smallest
 smallest : (cs : Checks) → Rises cs → (r : Refusal) → first cs ≡ Some r → Least r cs

@@ -1,6 +1,6 @@
 -- What each call of a house answers and leads to, from its seats and its pending frames. Assumes nothing.
 use Rattle.std.specs.Prelude.{◌≡◌, ℕ, ◌+◌, ◌-◌, ◌<◌, ◌≤◌, Bool, true, cond, not, ◌||◌, List, [], ◌∷◌, ◌++◌, length, drop, Some, None, Option, ◌==◌, nat_lt}
-use Rattle.std.specs.List.{AllByRecursion as All}
+use Rattle.std.specs.List.{AllByRecursion}
 use Rattle.bus.specs.declared.frame.Frame.{Frame}
 use Rattle.bus.specs.declared.refusal.Refusal.{Refusal}
 use Rattle.bus.specs.declared.refusal.Refusal.TheVariants.{ShortBuffer, IllFormedFrame, NoSuchSeat, NoSuchButton, NotQuiet, NothingPending, NoRoom}
@@ -86,7 +86,7 @@ written fs buffer = fs ++ drop (length fs) buffer
 -- each number is below those after it
 abbrev pub Rises : Checks → Type 0
 Rises [] = Unit {0}
-Rises (c ∷ cs) = All (λ d. number c.1 < number d.1) cs × Rises cs
+Rises (c ∷ cs) = AllByRecursion (λ d. number c.1 < number d.1) cs × Rises cs
 
 -- against every call, the numbers are looked at from the smallest up
 abbrev pub NumbersRise : Type 0
@@ -95,4 +95,4 @@ NumbersRise = (ss : List Seat) (q : List Frame) (c : Call) → Rises (checks ss 
 -- so of all refusals that apply to a call, the one answered has the smallest number
 abbrev pub SmallestFirst : Type 0
 SmallestFirst =
-    (ss : List Seat) (q : List Frame) (c : Call) (r : Refusal) → first (checks ss q c) ≡ Some r → All (λ d. d.0 ≡ true → number r ≤ number d.1) (checks ss q c)
+    (ss : List Seat) (q : List Frame) (c : Call) (r : Refusal) → first (checks ss q c) ≡ Some r → AllByRecursion (λ d. d.0 ≡ true → number r ≤ number d.1) (checks ss q c)

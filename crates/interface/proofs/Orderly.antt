@@ -1,6 +1,6 @@
 -- The design of every model keeps the rules. Assumes nothing.
 use Rattle.std.proofs.Common.{◌≡◌, ℕ, ◌≤◌, ◌&&◌, eqb, ◌⊎◌, List, [], ◌∷◌, ◌++◌, length, refl, inl, arith, length-append}
-use Rattle.std.specs.List.{AllByRecursion as All}
+use Rattle.std.specs.List.{AllByRecursion}
 use Rattle.std.proofs.ByRecursion.{All-append}
 use Rattle.std.proofs.lemmas.Bool.{cond_both}
 use Rattle.bus.specs.declared.frame.Frame.{Frame}
@@ -27,10 +27,10 @@ pub record Forms (P : Frame → Type 0) (own : ℕ) : Type 0 where
   pub button : (edge : Edge) (b : ℕ) → P (message 0 own (status_bytes edge b))
 
 module _ (P : Frame → Type 0) (m : Model) (s : InterfaceSetup) (own : ℕ) (t : Forms P own) where
-  pub all_clock : (x : Time) (f : Frame) → P (message 3 own (0xD8 ∷ x.day ∷ x.hour ∷ x.minute ∷ [])) → All P (clock_sent own x f)
+  pub all_clock : (x : Time) (f : Frame) → P (message 3 own (0xD8 ∷ x.day ∷ x.hour ∷ x.minute ∷ [])) → AllByRecursion P (clock_sent own x f)
   all_clock x f p = all_one P (is_command 0xD7 1 f) _ p
 
-  pub all_command : (cells : List ℕ) (x : State) (f : Frame) → P (message 3 own (0xD8 ∷ x.clock.day ∷ x.clock.hour ∷ x.clock.minute ∷ [])) → All P (command_sent m s own cells x f)
+  pub all_command : (cells : List ℕ) (x : State) (f : Frame) → P (message 3 own (0xD8 ∷ x.clock.day ∷ x.clock.hour ∷ x.clock.minute ∷ [])) → AllByRecursion P (command_sent m s own cells x f)
   all_command cells x f p =
       All-append P (memory_sent own cells f) (status_sent own x f ++ (type_sent m s own f ++ clock_sent own x.clock f))
       (all_memory P own cells f (t.cell _ _ _) (t.block _ _ _ _ _ _))
@@ -40,9 +40,9 @@ module _ (P : Frame → Type 0) (m : Model) (s : InterfaceSetup) (own : ℕ) (t 
       (all_one P (eqb f.rtr 1 && eqb f.count 0) _ (t.type m.code s.serial.high s.serial.low s.map s.year s.week))
       (all_clock x.clock f p)))
 
-  pub all_pushed : (x : State) (channel : ℕ) (edge : Edge) → All P (pushed_sent m own x channel edge)
+  pub all_pushed : (x : State) (channel : ℕ) (edge : Edge) → AllByRecursion P (pushed_sent m own x channel edge)
   all_pushed x channel edge =
-      cond_both (locked (hold_on x.holds channel)) [] (push_sent own m.buttons x.pressed channel edge) (All P) (λ _. tt)
+      cond_both (locked (hold_on x.holds channel)) [] (push_sent own m.buttons x.pressed channel edge) (AllByRecursion P) (λ _. tt)
       (λ _. all_one P (accepted m.buttons x.pressed channel edge) _ (t.button edge (bit channel)))
 
 -- a frame bears the own address

@@ -1,6 +1,6 @@
 -- A relay sends lamp commands to links alone. Assumes nothing.
 use Rattle.std.proofs.Common.{◌≡◌, ℕ, true, ◌⊎◌, sym, refl, subst, inl, inr, arith}
-use Rattle.std.specs.List.{AllByRecursion as All}
+use Rattle.std.specs.List.{AllByRecursion}
 use Rattle.bus.specs.declared.frame.Frame.{Frame}
 use Rattle.station.specs.declared.event.Event.{Event}
 use Rattle.station.specs.declared.event.Event.TheVariants.{Heard, Second, Pushed}
@@ -27,7 +27,7 @@ module _ (s : RelaySetup) (own : ℕ) (r : Record) where
   due_lamps : (f : Frame) → from_link (relay_kind s) own r f ≡ true → Lamps (Due (Heard f)) f.address
   due_lamps f l = record { on = λ bits. inr (f, refl, l, refl, inl refl); out = λ bits. inr (f, refl, l, refl, inr refl) }
 
-  due : (e : Event) → All (Due e) ((relay_kind s).acts own r e).sent
+  due : (e : Event) → AllByRecursion (Due e) ((relay_kind s).acts own r e).sent
   due (Heard f) =
       all_heard (relay_design s) own r (Due (Heard f)) f (all_command (Due (Heard f)) own (due_forms (Heard f)) r f) tt
       (λ l. all_status (Due (Heard f)) s own (due_forms (Heard f)) r f (due_lamps f l))
@@ -50,7 +50,7 @@ else_from_own_address s =
       second = λ own r. all_second (Own own) own (own_forms own) r;
       push = λ own r p. all_pushed (relay_design s) own r (Own own) p tt;
       command = λ own r f e.
-          subst (λ o. All (Own own) o.sent) (sym (at_own (relay_design s) own r f e)) (all_command (Own own) own (own_forms own) r f);
+          subst (λ o. AllByRecursion (Own own) o.sent) (sym (at_own (relay_design s) own r f e)) (all_command (Own own) own (own_forms own) r f);
       broadcast = λ own r f z.
           all_heard (relay_design s) own r (Own own) f (all_command (Own own) own (own_forms own) r f) tt (λ l. absurd (omega (arith, (link_address (relay_design s) own r f l).0)));
     }

@@ -1,6 +1,6 @@
 -- The frames that modules send are well formed, and no writes. Assumes nothing.
 use Rattle.std.proofs.Common.{ℕ, ◌&&◌, eqb, [], ◌∷◌, ◌++◌, refl}
-use Rattle.std.specs.List.{AllByRecursion as All}
+use Rattle.std.specs.List.{AllByRecursion}
 use Rattle.std.proofs.ByRecursion.{All-append, All-weaker}
 use Rattle.bus.specs.declared.frame.Frame.{Frame}
 use Rattle.bus.specs.Frames.{is_command, message}
@@ -43,7 +43,7 @@ module _ (P : Frame → Type 0) where
   all_relay s t l own r Second = all_second P own (t own) r
   all_relay s t l own r (Pushed p) = all_pushed (relay_design s) own r P p tt
 
-  all_panel_command : (s : PanelSetup) (own : ℕ) → PanelForms P own → (r : Record) (f : Frame) → All P ((panel_design s).command own r f).sent
+  all_panel_command : (s : PanelSetup) (own : ℕ) → PanelForms P own → (r : Record) (f : Frame) → AllByRecursion P ((panel_design s).command own r f).sent
   all_panel_command s own t r f =
       let l = lamps r in
       All-append P (memory_sent own r.cells f) (status_sent own l (pressed r) f ++ type_sent own s l f)

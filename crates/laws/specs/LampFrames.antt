@@ -1,6 +1,6 @@
 -- To whom a relay sends lamp commands, and when. Assumes nothing.
 use Rattle.std.specs.Prelude.{◌≡◌, ℕ, true, ◌⊎◌, List}
-use Rattle.std.specs.List.{AllByRecursion as All}
+use Rattle.std.specs.List.{AllByRecursion}
 use Rattle.bus.specs.declared.frame.Frame.{Frame}
 use Rattle.bus.specs.Frames.{is_command}
 use Rattle.station.specs.declared.event.Event.{Event}
@@ -16,11 +16,11 @@ LampOfLink k own r e g =
 -- each frame sent bears the own address, or else is such a lamp command
 abbrev pub LampsOnlyToLinks : Kind → Type 0
 LampsOnlyToLinks k =
-    (own : ℕ) (r : Record) (e : Event) → All (λ g. (g.address ≡ own) ⊎ LampOfLink k own r e g) (k.acts own r e).sent
+    (own : ℕ) (r : Record) (e : Event) → AllByRecursion (λ g. (g.address ≡ own) ⊎ LampOfLink k own r e g) (k.acts own r e).sent
 
 -- each frame bears the address
 abbrev pub AllBear : ℕ → List Frame → Type 0
-AllBear a fs = All (λ g. g.address ≡ a) fs
+AllBear a fs = AllByRecursion (λ g. g.address ≡ a) fs
 
 -- what is sent on a second, a push, a command and a broadcast bears the own address
 pub record ElseFromOwnAddress (k : Kind) : Type 0 where

@@ -1,7 +1,7 @@
 // Laws of the relay, the panel and the button interface. Each stands in the contract of a function, so the crate is proved only if the law is.
 #![tactic(auto)]
 
-ghost use Rattle.std.specs.List.{AllByRecursion as All};
+ghost use Rattle.std.specs.List.{AllByRecursion};
 ghost use Rattle.laws.specs.Blocks.{TakesBlockWrites, BlockWritesKeepChannels};
 ghost use Rattle.laws.specs.Kinds.{EveryRelay, EveryPanel, EveryButtons};
 ghost use Rattle.laws.specs.LampFrames.{LampsOnlyToLinks, ElseFromOwnAddress};
@@ -11,7 +11,7 @@ ghost use Rattle.laws.specs.Sending.{SendsOnly, WellFormed, NoWrite};
 ghost use Rattle.laws.specs.Times.{TimeEnds, ChannelTimeEnds};
 ghost use Rattle.laws.specs.WorkedLines.{worked_lines, Holds};
 
-// All frames sent are well formed, and none is a write.
+// AllByRecursion frames sent are well formed, and none is a write.
 pub fn sending_laws() -> u8
     ensures relay_well_formed { EveryRelay (SendsOnly WellFormed) }
     ensures panel_well_formed { EveryPanel (SendsOnly WellFormed) }
@@ -76,7 +76,7 @@ pub fn read_laws() -> u8
 
 // Examples worked out by hand: what the definitions say of them.
 pub fn worked_lines() -> u8
-    ensures { All Holds worked_lines }
+    ensures { AllByRecursion Holds worked_lines }
 {
     0
 }

@@ -1,6 +1,6 @@
 -- What holds of each answer of a design holds of what its kind does. Assumes nothing.
 use Rattle.std.proofs.Common.{◌≡◌, ℕ, ◌<◌, true, false, not, ◌&&◌, eqb, ltb, ◌∙◌, arith}
-use Rattle.std.specs.List.{AllByRecursion as All}
+use Rattle.std.specs.List.{AllByRecursion}
 use Rattle.std.proofs.lemmas.Bool.{cond-true, cond-false, cond_both, and_parts, not-true, eq-eqb, ne_eqb, ltb-true}
 use Rattle.bus.specs.declared.frame.Frame.{Frame}
 use Rattle.station.specs.declared.event.Event.TheVariants.{Heard, Pushed}
@@ -32,12 +32,12 @@ module _ (d : Design) (own : ℕ) (r : Record) where
       cond-false (eqb a own) _ _ l.1 ∙ (cond-false (eqb a 0) _ _ above ∙ cond-true (from_link (designed d) own r f) _ _ e)
 
   module _ (P : Frame → Type 0) where
-    pub all_heard : (f : Frame) → All P (d.command own r f).sent → All P (d.broadcast own r f).sent → (from_link (designed d) own r f ≡ true → All P (d.status own r f).sent) → All P (answered d own r (Heard f)).sent
+    pub all_heard : (f : Frame) → AllByRecursion P (d.command own r f).sent → AllByRecursion P (d.broadcast own r f).sent → (from_link (designed d) own r f ≡ true → AllByRecursion P (d.status own r f).sent) → AllByRecursion P (answered d own r (Heard f)).sent
     all_heard f command broadcast status =
         let linking = from_link (designed d) own r f in
-        let Q : Outcome → Type 0 = λ o. All P o.sent in
+        let Q : Outcome → Type 0 = λ o. AllByRecursion P o.sent in
         cond_both (eqb f.address own) _ _ Q (λ _. command)
         (λ _. cond_both (eqb f.address 0) _ _ Q (λ _. broadcast) (λ _. cond_both linking _ _ Q status (λ _. tt)))
 
-    pub all_pushed : (p : Push) → All P (d.push own r p.channel p.edge).sent → All P (answered d own r (Pushed p)).sent
-    all_pushed p push = cond_both (eqb p.address own) (d.push own r p.channel p.edge) (idle r) (λ o. All P o.sent) (λ _. push) (λ _. tt)
+    pub all_pushed : (p : Push) → AllByRecursion P (d.push own r p.channel p.edge).sent → AllByRecursion P (answered d own r (Pushed p)).sent
+    all_pushed p push = cond_both (eqb p.address own) (d.push own r p.channel p.edge) (idle r) (λ o. AllByRecursion P o.sent) (λ _. push) (λ _. tt)

@@ -1,6 +1,6 @@
 -- A kind of module by its answers, one for each way in which an event can reach a seat. Assumes nothing.
 use Rattle.std.specs.Prelude.{◌≡◌, ℕ, ◌≤◌, Bool, cond, ◌&&◌, ◌⊎◌, List, [], length, ◌==◌}
-use Rattle.std.specs.List.{AllByRecursion as All}
+use Rattle.std.specs.List.{AllByRecursion}
 use Rattle.bus.specs.declared.frame.Frame.{Frame}
 use Rattle.station.specs.declared.event.Edge.{Edge}
 use Rattle.station.specs.declared.event.Event.{Event}
@@ -41,7 +41,7 @@ designed d = kind_of d.memory d.buttons d.setup d.names (answered d)
 -- cells after it
 pub record Proper (own : ℕ) (Allowed : ℕ → Type 0) (cells : List ℕ) (o : Outcome) : Type 0 where
   pub nine : length o.sent ≤ 9
-  pub bears : All (λ f. (f.address ≡ own) ⊎ Allowed f.address) o.sent
+  pub bears : AllByRecursion (λ f. (f.address ≡ own) ⊎ Allowed f.address) o.sent
   pub keeps : o.after.cells ≡ cells
 
 -- no address is allowed besides the own

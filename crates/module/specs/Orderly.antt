@@ -1,7 +1,7 @@
 -- A design that keeps the rules makes a lawful seat. Assumes nothing.
 use Rattle.std.specs.Prelude.{◌≡◌, ℕ, ◌+◌, ◌≤◌, Bool, true, false, cond, ◌&&◌, ◌||◌, List, [], ◌∷◌, length, ◌==◌, nat_le, slice_set, refl}
 use Rattle.std.proofs.Common.{inl, inr, ap, ◌∙◌, arith, length-set}
-use Rattle.std.specs.List.{AllByRecursion as All}
+use Rattle.std.specs.List.{AllByRecursion}
 use Rattle.std.proofs.ByRecursion.{All-weaker}
 use Rattle.std.proofs.lemmas.Bool.{or_parts, and_parts, cond_both, cond-false, true≢false}
 use Rattle.bus.specs.declared.frame.Frame.{Frame}
@@ -29,7 +29,7 @@ length-after own cells (Pushed p) = refl
 
 -- what the rules ask of an outcome, whatever the event
 abbrev Keeps : Design → ℕ → Record → List ℕ → Outcome → Type 0
-Keeps d own r cells o = (length o.sent ≤ 9) × All (Bears (designed d) own r) o.sent × (o.after.cells ≡ cells)
+Keeps d own r cells o = (length o.sent ≤ 9) × AllByRecursion (Bears (designed d) own r) o.sent × (o.after.cells ≡ cells)
 
 module _ (d : Design) (own : ℕ) (r : Record) where
   idle_keeps : Keeps d own r r.cells (idle r)

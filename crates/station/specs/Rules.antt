@@ -1,6 +1,6 @@
 -- The rules that every seat keeps. Assumes nothing.
 use Rattle.std.specs.Prelude.{◌≡◌, ℕ, ◌+◌, ◌*◌, ◌<◌, ◌≤◌, true, false, cond, ◌⊎◌, List, [], ◌∷◌, length, ◌==◌, nat_le, slice_set}
-use Rattle.std.specs.List.{AllByRecursion as All}
+use Rattle.std.specs.List.{AllByRecursion}
 use Rattle.bus.specs.declared.frame.Frame.{Frame}
 use Rattle.bus.specs.Frames.{byte, is_command}
 use Rattle.station.specs.declared.event.Event.{Event}
@@ -45,7 +45,7 @@ Bears k own r f = (f.address ≡ own) ⊎ (links k own r f.address ≡ true)
 pub record Rules (k : Kind) (own : ℕ) (r : Record) : Type 0 where
   pub unreached : (e : Event) → reaches k own r e ≡ false → ((k.acts own r e).after ≡ r) × ((k.acts own r e).sent ≡ [])
   pub nine : (e : Event) → length (k.acts own r e).sent ≤ 9
-  pub bears : (e : Event) → All (Bears k own r) (k.acts own r e).sent
+  pub bears : (e : Event) → AllByRecursion (Bears k own r) (k.acts own r e).sent
   pub writes : (e : Event) → (k.acts own r e).after.cells ≡ cells_after own r.cells e
   pub sized : length r.cells ≡ k.memory
   pub small : k.memory ≤ 1024
@@ -65,4 +65,4 @@ Sound s = (s.address < 256) × Lawful s
 
 -- what every station is: one seat or more, each sound
 abbrev pub Stands : List Seat → Type 0
-Stands ss = (0 < length ss) × All Sound ss
+Stands ss = (0 < length ss) × AllByRecursion Sound ss

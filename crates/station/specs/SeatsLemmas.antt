@@ -1,7 +1,7 @@
 -- What holds of lists of seats, and of two of them one after the other. Assumes nothing.
 use Rattle.std.specs.Prelude.{◌≡◌, ℕ, ◌+◌, ◌*◌, ◌<◌, ◌≤◌, Bool, true, false, cond, ◌||◌, List, [], ◌∷◌, ◌++◌, length, Some, ◌==◌, refl}
 use Rattle.std.proofs.Common.{sym, ap, ◌∙◌, add_assoc, zero-add, arith, length-append}
-use Rattle.std.specs.List.{flat_map, AllByRecursion as All}
+use Rattle.std.specs.List.{flat_map, AllByRecursion}
 use Rattle.std.proofs.ByRecursion.{All-append}
 use Rattle.std.proofs.lemmas.List.{append_assoc}
 use Rattle.std.proofs.lemmas.Bool.{or_parts, true≢false}
@@ -54,12 +54,12 @@ first_at_right a (x ∷ xs) ys h = by (x.address == a) h (first_at_right a xs ys
     by false p rest = rest (omega arith)
 
 -- nine frames a seat at most
-pub few_sent : (e : Event) (ss : List Seat) → All Sound ss → length (sent_all e ss) ≤ 9 * length ss
+pub few_sent : (e : Event) (ss : List Seat) → AllByRecursion Sound ss → length (sent_all e ss) ≤ 9 * length ss
 few_sent e [] h = omega arith
 few_sent e (s ∷ ss) h = simp length-append (omega (arith, (h.0.1 []).nine e, few_sent e ss h.1))
 
 -- a frame that no seat hears changes no seat, and none sends
-pub unheard_same : (f : Frame) (ss : List Seat) → All Sound ss → some_hears f ss ≡ false → after_all (Heard f) ss ≡ ss
+pub unheard_same : (f : Frame) (ss : List Seat) → AllByRecursion Sound ss → some_hears f ss ≡ false → after_all (Heard f) ss ≡ ss
 unheard_same f [] h n = refl
 unheard_same f (s ∷ ss) h n =
     let parts = or_parts _ _ n in
@@ -67,7 +67,7 @@ unheard_same f (s ∷ ss) h n =
     let same : after (Heard f) s ≡ s = λ i. record { kind = s.kind; address = s.address; content = here i } in
     λ i. same i ∷ unheard_same f ss h.1 parts.1 i
 
-pub unheard_mute : (f : Frame) (ss : List Seat) → All Sound ss → some_hears f ss ≡ false → sent_all (Heard f) ss ≡ []
+pub unheard_mute : (f : Frame) (ss : List Seat) → AllByRecursion Sound ss → some_hears f ss ≡ false → sent_all (Heard f) ss ≡ []
 unheard_mute f [] h n = refl
 unheard_mute f (s ∷ ss) h n =
     let parts = or_parts _ _ n in
@@ -78,12 +78,12 @@ pub stands-append : (xs ys : List Seat) → Stands xs → Stands ys → Stands (
 stands-append xs ys h k = (simp length-append (omega (arith, h.0)), All-append Sound xs ys h.1 k.1)
 
 -- what a sieve does not hand down changes no seat, and none sends
-pub stopped_same : (e : Event) (ss : List Seat) → All Sound ss → passes e ss ≡ false → after_all e ss ≡ ss
+pub stopped_same : (e : Event) (ss : List Seat) → AllByRecursion Sound ss → passes e ss ≡ false → after_all e ss ≡ ss
 stopped_same (Heard f) ss h n = unheard_same f ss h n
 stopped_same Second ss h n = absurd (true≢false n)
 stopped_same (Pushed p) ss h n = absurd (true≢false n)
 
-pub stopped_mute : (e : Event) (ss : List Seat) → All Sound ss → passes e ss ≡ false → sent_all e ss ≡ []
+pub stopped_mute : (e : Event) (ss : List Seat) → AllByRecursion Sound ss → passes e ss ≡ false → sent_all e ss ≡ []
 stopped_mute (Heard f) ss h n = unheard_mute f ss h n
 stopped_mute Second ss h n = absurd (true≢false n)
 stopped_mute (Pushed p) ss h n = absurd (true≢false n)
