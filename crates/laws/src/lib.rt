@@ -11,7 +11,7 @@ ghost use Rattle.laws.specs.Sending.{SendsOnly, WellFormed, NoWrite};
 ghost use Rattle.laws.specs.Times.{TimeEnds, ChannelTimeEnds};
 ghost use Rattle.laws.specs.WorkedLines.{worked_lines, Holds};
 
-// AllByRecursion frames sent are well formed, and none is a write.
+// All frames sent are well formed, and none is a write.
 pub fn sending_laws() -> u8
     ensures relay_well_formed { EveryRelay (SendsOnly WellFormed) }
     ensures panel_well_formed { EveryPanel (SendsOnly WellFormed) }
