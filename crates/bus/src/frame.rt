@@ -1,9 +1,9 @@
 // A frame of the bus, and when it is well formed.
 ghost use Rattle.std.specs.Prelude.{◌≡◌, ◌≤◌, true};
-ghost use Rattle.bus.specs.Frames.{is_command, seconds_in, sound_header, well_formed, zeros};
+ghost use Rattle.bus.specs.Frames.{is_command, is_type_request, of_body, seconds_in, sound_header, well_formed, zeros};
 
 // A frame as it is written down, which may also be ill formed: nothing here says that its parts fit together.
-#[derive(Clone, Copy, PartialEq, Eq, Debug)]
+#[derive(Clone, Copy, PartialEq, Eq, Debug, Default)]
 pub struct Frame {
     pub priority: u8,
     pub address: u8,
@@ -33,12 +33,19 @@ impl Frame {
         self.bytes[0] == code && self.rtr == 0 && self.count == count
     }
 
+    // Whether it asks a module for its type.
+    pub fn is_type_request(&self) -> bool
+        ensures { result ≡ is_type_request self.now }
+    {
+        self.rtr == 1 && self.count == 0
+    }
+
     // The time that a command carries, in seconds.
     pub fn seconds(&self) -> u32
         ensures { result ≡ seconds_in self.now }
     {
         let [_, _, high, mid, low, _, _, _] = self.bytes;
-        u32::from(high) * 65536 + u32::from(mid) * 256 + u32::from(low)
+        u32::from_be_bytes([0, high, mid, low])
     }
 
     // Whether priority, RTR and count fit together.
@@ -61,10 +68,21 @@ impl Frame {
 fn all_zero(bytes: &[u8]) -> bool
     ensures { result ≡ zeros bytes.now }
 {
-    for b in bytes {
-        if *b != 0 {
-            return false;
+    bytes.iter().all(|byte| *byte == 0)
+}
+
+// A frame as a log has it: priority, address, RTR, count and the eight data bytes.
+impl From<[u8; 12]> for Frame {
+    ghost from_gives = { λ body r. r ≡ of_body body };
+
+    fn from(body: [u8; 12]) -> Self {
+        let [priority, address, rtr, count, a, b, c, d, e, f, g, h] = body;
+        Frame {
+            priority,
+            address,
+            rtr,
+            count,
+            bytes: [a, b, c, d, e, f, g, h],
         }
     }
-    true
 }

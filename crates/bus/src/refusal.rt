@@ -7,18 +7,18 @@ use std::fmt;
 // Why a call was refused. Each case has a number, by which documents and logs speak of it; more cases will come.
 #[derive(Clone, Copy, PartialEq, Eq, Debug)]
 pub enum Refusal {
-    SeatAddress,
-    AddressTwice,
-    TooManySeats,
-    ShortBuffer,
-    IllFormedFrame,
-    NoSuchSeat,
-    NoSuchButton,
-    NotQuiet,
-    NothingPending,
-    NoRoom,
-    UnknownItem,
-    CutShort,
+    SeatAddress = 1,
+    AddressTwice = 2,
+    TooManySeats = 3,
+    ShortBuffer = 4,
+    IllFormedFrame = 5,
+    NoSuchSeat = 6,
+    NoSuchButton = 7,
+    NotQuiet = 8,
+    NothingPending = 9,
+    NoRoom = 10,
+    UnknownItem = 11,
+    CutShort = 12,
 }
 
 impl Refusal {
@@ -26,20 +26,7 @@ impl Refusal {
     pub fn number(self) -> u8
         ensures { result ≡ number self }
     {
-        match self {
-            Refusal::SeatAddress => 1,
-            Refusal::AddressTwice => 2,
-            Refusal::TooManySeats => 3,
-            Refusal::ShortBuffer => 4,
-            Refusal::IllFormedFrame => 5,
-            Refusal::NoSuchSeat => 6,
-            Refusal::NoSuchButton => 7,
-            Refusal::NotQuiet => 8,
-            Refusal::NothingPending => 9,
-            Refusal::NoRoom => 10,
-            Refusal::UnknownItem => 11,
-            Refusal::CutShort => 12,
-        }
+        self as u8
     }
 }
 

@@ -6,8 +6,8 @@ use Rattle.std.proofs.lemmas.Bool.{false≢true, both_ways, cond-true, cond-fals
 use Rattle.bus.specs.declared.frame.Frame.{Frame}
 use Rattle.bus.specs.Frames.{byte, is_command, message}
 use Rattle.bus.proofs.Commands.{other_command}
-use Rattle.station.specs.declared.event.Edge.{Edge}
-use Rattle.station.specs.declared.event.Edge.TheVariants.{Press, Release, LongPress}
+use Rattle.station.specs.declared.edge.Edge.{Edge}
+use Rattle.station.specs.declared.edge.Edge.TheVariants.{Press, Release, LongPress}
 use Rattle.station.specs.declared.event.Event.{Event}
 use Rattle.station.specs.declared.event.Event.TheVariants.{Heard, Second, Pushed}
 use Rattle.station.specs.Kinds.{Record, Outcome, from_link}

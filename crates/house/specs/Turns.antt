@@ -6,8 +6,8 @@ use Rattle.bus.specs.declared.refusal.Refusal.{Refusal}
 use Rattle.bus.specs.declared.refusal.Refusal.TheVariants.{ShortBuffer, IllFormedFrame, NoSuchSeat, NoSuchButton, NotQuiet, NothingPending, NoRoom}
 use Rattle.bus.specs.Frames.{well_formed}
 use Rattle.bus.specs.Refusals.{number}
-use Rattle.station.specs.declared.event.Edge.{Edge}
-use Rattle.station.specs.declared.event.Edge.TheVariants.{Press, Release, LongPress}
+use Rattle.station.specs.declared.edge.Edge.{Edge}
+use Rattle.station.specs.declared.edge.Edge.TheVariants.{Press, Release, LongPress}
 use Rattle.station.specs.declared.event.Event.{Event}
 use Rattle.station.specs.declared.event.Event.TheVariants.{Heard, Second, Pushed}
 use Rattle.station.specs.Kinds.{Seat}

@@ -5,7 +5,7 @@ use Rattle.std.proofs.ByRecursion.{All-append}
 use Rattle.std.proofs.lemmas.Bool.{cond_both}
 use Rattle.bus.specs.declared.frame.Frame.{Frame}
 use Rattle.bus.specs.Frames.{is_command, message}
-use Rattle.station.specs.declared.event.Edge.{Edge}
+use Rattle.station.specs.declared.edge.Edge.{Edge}
 use Rattle.module.specs.Designs.{Orderly, OnlyOwn}
 use Rattle.module.specs.Memories.{memory_sent}
 use Rattle.module.specs.Pushes.{bit, accepted, status_bytes, push_sent}

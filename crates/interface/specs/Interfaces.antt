@@ -2,7 +2,7 @@
 use Rattle.std.specs.Prelude.{ℕ, cond, ◌&&◌, List, [], ◌∷◌, ◌++◌, Some, None, Option, ◌==◌, bit_and}
 use Rattle.bus.specs.declared.frame.Frame.{Frame}
 use Rattle.bus.specs.Frames.{byte, seconds_in, is_command, message}
-use Rattle.station.specs.declared.event.Edge.{Edge}
+use Rattle.station.specs.declared.edge.Edge.{Edge}
 use Rattle.station.specs.Kinds.{Outcome}
 use Rattle.station.specs.Rules.{stored}
 use Rattle.module.specs.Designs.{Design}

@@ -4,8 +4,8 @@ use Rattle.std.specs.List.{AllByRecursion}
 use Rattle.std.proofs.ByRecursion.{All-append, All-weaker}
 use Rattle.bus.specs.declared.frame.Frame.{Frame}
 use Rattle.bus.specs.Frames.{is_command, message}
-use Rattle.station.specs.declared.event.Edge.{Edge}
-use Rattle.station.specs.declared.event.Edge.TheVariants.{Press, Release, LongPress}
+use Rattle.station.specs.declared.edge.Edge.{Edge}
+use Rattle.station.specs.declared.edge.Edge.TheVariants.{Press, Release, LongPress}
 use Rattle.station.specs.declared.event.Event.TheVariants.{Heard, Second, Pushed}
 use Rattle.station.specs.Kinds.{Record}
 use Rattle.module.specs.Memories.{memory_sent}

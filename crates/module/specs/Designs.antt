@@ -2,7 +2,7 @@
 use Rattle.std.specs.Prelude.{◌≡◌, ℕ, ◌≤◌, Bool, cond, ◌&&◌, ◌⊎◌, List, [], length, ◌==◌}
 use Rattle.std.specs.List.{AllByRecursion}
 use Rattle.bus.specs.declared.frame.Frame.{Frame}
-use Rattle.station.specs.declared.event.Edge.{Edge}
+use Rattle.station.specs.declared.edge.Edge.{Edge}
 use Rattle.station.specs.declared.event.Event.{Event}
 use Rattle.station.specs.declared.event.Event.TheVariants.{Heard, Second, Pushed}
 use Rattle.station.specs.Kinds.{Record, Outcome, Kind, kind_of, is_status, linked}

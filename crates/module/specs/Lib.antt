@@ -3,6 +3,5 @@ pub mod Designs
 pub mod Memories
 pub mod LampBytes
 pub mod Pushes
-pub mod Cells
 pub mod Searches
 pub mod Orderly

@@ -2,8 +2,8 @@
 use Rattle.std.specs.Prelude.{ℕ, ◌-◌, ◌^◌, min, Bool, cond, not, ◌&&◌, List, [], ◌∷◌, ◌==◌, bit_and, bit_or, nat_le, nat_lt}
 use Rattle.bus.specs.declared.frame.Frame.{Frame}
 use Rattle.bus.specs.Frames.{message}
-use Rattle.station.specs.declared.event.Edge.{Edge}
-use Rattle.station.specs.declared.event.Edge.TheVariants.{Press, Release, LongPress}
+use Rattle.station.specs.declared.edge.Edge.{Edge}
+use Rattle.station.specs.declared.edge.Edge.TheVariants.{Press, Release, LongPress}
 
 -- the bit of a channel, counted from 1
 abbrev pub bit : ℕ → ℕ

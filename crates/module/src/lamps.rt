@@ -12,6 +12,46 @@ pub struct Lamps {
     pub fast: u8,
 }
 
+// A way to shine: whether the bits for on, slow and fast blinking are set.
+#[derive(Clone, Copy)]
+struct Mode {
+    on: bool,
+    slow: bool,
+    fast: bool,
+}
+
+impl Mode {
+    const OUT: Mode = Mode {
+        on: false,
+        slow: false,
+        fast: false,
+    };
+
+    const ON: Mode = Mode {
+        on: true,
+        slow: false,
+        fast: false,
+    };
+
+    const SLOW: Mode = Mode {
+        on: false,
+        slow: true,
+        fast: false,
+    };
+
+    const FAST: Mode = Mode {
+        on: false,
+        slow: false,
+        fast: true,
+    };
+
+    const VERY_FAST: Mode = Mode {
+        on: false,
+        slow: true,
+        fast: true,
+    };
+}
+
 // A byte with the named bits set, or cleared.
 fn mark(wanted: bool, old: u8, bits: u8) -> u8
     ensures { result ≡ marked wanted old bits }
@@ -32,12 +72,12 @@ impl Lamps {
     }
 
     // Puts the named lamps in one mode.
-    fn set(&mut self, on: bool, slow: bool, fast: bool, bits: u8)
-        ensures { self.new ≡ in_mode on slow fast self.old bits }
+    fn set(&mut self, mode: Mode, bits: u8)
+        ensures { self.new ≡ in_mode mode.on mode.slow mode.fast self.old bits }
     {
-        self.on = mark(on, self.on, bits);
-        self.slow = mark(slow, self.slow, bits);
-        self.fast = mark(fast, self.fast, bits);
+        self.on = mark(mode.on, self.on, bits);
+        self.slow = mark(mode.slow, self.slow, bits);
+        self.fast = mark(mode.fast, self.fast, bits);
     }
 
     // Obeys a lamp command; any other frame does nothing here.
@@ -50,15 +90,15 @@ impl Lamps {
             self.slow = frame.bytes[2];
             self.fast = frame.bytes[3];
         } else if frame.is_command(0xF5, 2) {
-            self.set(false, false, false, bits);
+            self.set(Mode::OUT, bits);
         } else if frame.is_command(0xF6, 2) {
-            self.set(true, false, false, bits);
+            self.set(Mode::ON, bits);
         } else if frame.is_command(0xF7, 2) {
-            self.set(false, true, false, bits);
+            self.set(Mode::SLOW, bits);
         } else if frame.is_command(0xF8, 2) {
-            self.set(false, false, true, bits);
+            self.set(Mode::FAST, bits);
         } else if frame.is_command(0xF9, 2) {
-            self.set(false, true, true, bits);
+            self.set(Mode::VERY_FAST, bits);
         }
     }
 }

@@ -2,7 +2,7 @@
 use Rattle.std.specs.Prelude.{false, cond, ◌&&◌, List, [], ◌∷◌, ◌++◌, ◌==◌, ℕ, slice_index}
 use Rattle.bus.specs.declared.frame.Frame.{Frame}
 use Rattle.bus.specs.Frames.{is_command, message}
-use Rattle.station.specs.declared.event.Edge.{Edge}
+use Rattle.station.specs.declared.edge.Edge.{Edge}
 use Rattle.station.specs.Kinds.{Record, Outcome}
 use Rattle.station.specs.Rules.{stored}
 use Rattle.module.specs.declared.lamps.Lamps.{Lamps}

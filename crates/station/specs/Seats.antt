@@ -1,6 +1,6 @@
 -- What a list of seats does and answers. Assumes nothing.
 use Rattle.std.specs.Prelude.{ℕ, ◌+◌, ◌*◌, min, Bool, false, cond, ◌||◌, List, [], ◌∷◌, map, length, Some, None, Option, ◌==◌, nat_lt, slice_index}
-use Rattle.std.specs.List.{flat_map}
+use Rattle.std.specs.List.{flat_map, list_any, find}
 use Rattle.bus.specs.declared.frame.Frame.{Frame}
 use Rattle.station.specs.declared.event.Event.{Event}
 use Rattle.station.specs.Kinds.{Seat, bytes, links, hears, after, sent}
@@ -19,8 +19,7 @@ sent_all e ss = flat_map (sent e) ss
 
 -- some seat hears the frame
 abbrev pub some_hears : Frame → List Seat → Bool
-some_hears f [] = false
-some_hears f (s ∷ ss) = hears s.kind s.address s.content f || some_hears f ss
+some_hears f ss = list_any (λ s. hears s.kind s.address s.content f) ss
 
 -- how many seats stand at an address
 abbrev pub count_at : ℕ → List Seat → ℕ
@@ -33,8 +32,7 @@ standing a ss = min 2 (count_at a ss)
 
 -- the first seat at an address
 abbrev pub first_at : ℕ → List Seat → Option Seat
-first_at a [] = None
-first_at a (s ∷ ss) = cond (s.address == a) (Some s) (first_at a ss)
+first_at a ss = find (λ s. s.address == a) ss
 
 -- an answer of a seat, or a default where there is none
 abbrev pub asked : {A : Type 0} → A → (Seat → A) → Option Seat → A

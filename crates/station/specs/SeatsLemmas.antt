@@ -1,5 +1,5 @@
 -- What holds of lists of seats, and of two of them one after the other. Assumes nothing.
-use Rattle.std.specs.Prelude.{◌≡◌, ℕ, ◌+◌, ◌*◌, ◌<◌, ◌≤◌, Bool, true, false, cond, ◌||◌, List, [], ◌∷◌, ◌++◌, length, Some, ◌==◌, refl}
+use Rattle.std.specs.Prelude.{◌≡◌, ℕ, zero, suc, ◌+◌, ◌*◌, ◌<◌, ◌≤◌, Bool, true, false, cond, ◌||◌, List, [], ◌∷◌, ◌++◌, length, Some, ◌==◌, refl}
 use Rattle.std.proofs.Common.{sym, ap, ◌∙◌, add_assoc, zero-add, arith, length-append}
 use Rattle.std.specs.List.{flat_map, AllByRecursion}
 use Rattle.std.proofs.ByRecursion.{All-append}
@@ -13,21 +13,7 @@ use Rattle.station.specs.declared.addresses.Addresses.{Addresses}
 use Rattle.station.specs.Listed.{added, listed}
 use Rattle.station.specs.Rules.{Sound, Stands}
 use Rattle.station.specs.Sieves.{passes}
-use Rattle.station.specs.Seats.{after_all, sent_all, some_hears, count_at, first_at}
-
-pub flat_map-append : {X A : Type 0} (f : X → List A) (xs ys : List X) → flat_map f (xs ++ ys) ≡ flat_map f xs ++ flat_map f ys
-flat_map-append f [] ys = refl
-flat_map-append f (x ∷ xs) ys = ap (λ t. f x ++ t) (flat_map-append f xs ys) ∙ sym (append_assoc (f x) (flat_map f xs) (flat_map f ys))
-
-or_assoc : (a b c : Bool) → ((a || b) || c) ≡ (a || (b || c))
-or_assoc true b c = refl
-or_assoc false b c = refl
-
-pub some_hears-append : (f : Frame) (xs ys : List Seat) → some_hears f (xs ++ ys) ≡ (some_hears f xs || some_hears f ys)
-some_hears-append f [] ys = refl
-some_hears-append f (x ∷ xs) ys =
-    let h = hears x.kind x.address x.content f in
-    ap (λ t. h || t) (some_hears-append f xs ys) ∙ sym (or_assoc h (some_hears f xs) (some_hears f ys))
+use Rattle.station.specs.Seats.{after_all, sent_all, some_hears, count_at, first_at, asked}
 
 pub count_at-append : (a : ℕ) (xs ys : List Seat) → count_at a (xs ++ ys) ≡ count_at a xs + count_at a ys
 count_at-append a [] ys = sym (zero-add (count_at a ys))
@@ -52,6 +38,14 @@ first_at_right a (x ∷ xs) ys h = by (x.address == a) h (first_at_right a xs ys
     by : (b : Bool) → cond b 1 0 + count_at a xs ≡ 0 → (count_at a xs ≡ 0 → first_at a (xs ++ ys) ≡ first_at a ys) → cond b (Some x) (first_at a (xs ++ ys)) ≡ first_at a ys
     by true p rest = absurd (omega arith)
     by false p rest = rest (omega arith)
+
+-- so an answer that is the first list's where that has a seat at the address, and else the second's, is that of both
+pub first_asked : {A : Type 0} (d : A) (f : Seat → A) (a : ℕ) (xs ys : List Seat) (r : A) → (0 < count_at a xs → r ≡ asked d f (first_at a xs)) → (count_at a xs ≡ 0 → r ≡ asked d f (first_at a ys)) → r ≡ asked d f (first_at a (xs ++ ys))
+first_asked d f a xs ys r left right = by (count_at a xs) refl
+  where
+    by : (n : ℕ) → count_at a xs ≡ n → r ≡ asked d f (first_at a (xs ++ ys))
+    by zero e = right e ∙ sym (ap (asked d f) (first_at_right a xs ys e))
+    by (suc n) e = let some : 0 < count_at a xs = omega arith in left some ∙ sym (ap (asked d f) (first_at_left a xs ys some))
 
 -- nine frames a seat at most
 pub few_sent : (e : Event) (ss : List Seat) → AllByRecursion Sound ss → length (sent_all e ss) ≤ 9 * length ss

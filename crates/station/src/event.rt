@@ -1,13 +1,6 @@
 // What can happen to a station.
+use crate::edge::Edge;
 use bus::Frame;
-
-// What happens to a button.
-#[derive(Clone, Copy)]
-pub enum Edge {
-    Press,
-    Release,
-    LongPress,
-}
 
 // An edge at a button of the seat with that address; channels count from 1.
 #[derive(Clone, Copy)]

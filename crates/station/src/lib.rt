@@ -3,6 +3,7 @@
 #![tactic(auto)]
 
 mod addresses;
+mod edge;
 mod event;
 mod listing;
 mod rail;
@@ -10,7 +11,8 @@ mod sieve;
 mod station;
 
 pub use addresses::Addresses;
-pub use event::{Edge, Event, Push};
+pub use edge::Edge;
+pub use event::{Event, Push};
 pub use rail::Rail;
 pub use sieve::Sieve;
 pub use station::Station;

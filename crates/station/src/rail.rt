@@ -1,5 +1,6 @@
 // A rail: two stations as one.
-ghost use Rattle.std.specs.Prelude.{◌≡◌, ◌+◌, ◌≤◌, min, ◌++◌, nat_lt};
+ghost use Rattle.std.specs.Prelude.{◌≡◌, ◌+◌, ◌<◌, ◌≤◌, min, ◌++◌};
+ghost use Rattle.std.specs.Fn.{FnOnceReturnsAt};
 ghost use Rattle.bus.specs.Outboxes.{Room, Sends};
 ghost use Rattle.station.specs.Seats.{places, after_all, sent_all, count_at};
 ghost use Rattle.station.specs.SeatsLemmas.{stands-append};
@@ -40,11 +41,23 @@ fn two_for_more(first: usize, second: usize) -> usize
 }
 
 impl<A: Station, B: Station> Rail<A, B> {
-    // Whether the first station has a seat at the address, and so the first one there.
-    fn has_first(&self, address: u8) -> bool
-        ensures { result ≡ nat_lt 0 (count_at address (A.Station.seats self.now.first)) }
+    // Asks the station in which the first seat at the address stands; where there is none, the second one.
+    fn ask<T, F: FnOnce(&A) -> T + Drop, G: FnOnce(&B) -> T + Drop>(
+        &self,
+        address: u8,
+        first: F,
+        second: G,
+    ) -> T
+        requires first { F.IsAlwaysCallable first }
+        requires second { G.IsAlwaysCallable second }
+        ensures first { 0 < count_at address (A.Station.seats self.now.first) → FnOnceReturnsAt F.FnOnce first self.now.first result }
+        ensures second { count_at address (A.Station.seats self.now.first) ≡ 0 → FnOnceReturnsAt G.FnOnce second self.now.second result }
     {
-        self.first.standing(address) > 0
+        if self.first.standing(address) > 0 {
+            first(&self.first)
+        } else {
+            second(&self.second)
+        }
     }
 }
 
@@ -71,26 +84,26 @@ impl<A: Station, B: Station> Station for Rail<A, B> {
     }
 
     fn links(&self, address: u8, other: u8) -> bool {
-        if self.has_first(address) {
-            self.first.links(address, other)
-        } else {
-            self.second.links(address, other)
-        }
+        self.ask(
+            address,
+            |first| first.links(address, other),
+            |second| second.links(address, other),
+        )
     }
 
     fn buttons(&self, address: u8) -> u8 {
-        if self.has_first(address) {
-            self.first.buttons(address)
-        } else {
-            self.second.buttons(address)
-        }
+        self.ask(
+            address,
+            |first| first.buttons(address),
+            |second| second.buttons(address),
+        )
     }
 
     fn byte(&self, address: u8, place: usize) -> Option<u8> {
-        if self.has_first(address) {
-            self.first.byte(address, place)
-        } else {
-            self.second.byte(address, place)
-        }
+        self.ask(
+            address,
+            |first| first.byte(address, place),
+            |second| second.byte(address, place),
+        )
     }
 }

@@ -1,10 +1,11 @@
 use Rattle.std.proofs.Common.{◌*◌, ◌++◌, length, sym, ap, ◌∙◌, subst, arith, length-append}
 use Rattle.std.proofs.lemmas.List.{map-append}
+use Rattle.std.proofs.lemmas.Grind.{flat_map-append}
 use Rattle.bus.specs.Outboxes.{Sends}
 use Rattle.bus.proofs.Outboxes.{sends_both, room_left}
 use Rattle.station.specs.Kinds.{after, sent}
 use Rattle.station.specs.Seats.{after_all}
-use Rattle.station.specs.SeatsLemmas.{few_sent, flat_map-append}
+use Rattle.station.specs.SeatsLemmas.{few_sent}
 use Rattle.station.proofs.rail.act_in_turn.Goals as goal
 
 pub act-requires : goal.act-requires

@@ -1,22 +1,9 @@
-use Rattle.std.proofs.Common.{◌≡◌, ◌<◌, false, sym, ap, ◌∙◌, arith}
+use Rattle.std.proofs.Common.{false, rules}
 use Rattle.station.specs.Kinds.{links}
-use Rattle.station.specs.Seats.{asked, count_at}
-use Rattle.std.proofs.lemmas.Bool.{ltb-true, ltb-false}
-use Rattle.station.specs.SeatsLemmas.{first_at_left, first_at_right}
+use Rattle.station.specs.SeatsLemmas.{first_asked}
 use Rattle.station.proofs.rail.RailStation.links.Goals as goal
 
-pub returns-then-has_first : goal.returns-then-has_first
-returns-then-has_first g c =
-    let a = c.args.address in
-    let xs = g.A.Station.seats c.args.self.now.first in
-    let ys = g.B.Station.seats c.args.self.now.second in
-    let some : 0 < count_at a xs = ltb-true 0 (count_at a xs) (sym c.if-has_first.ensures) in
-    c.links.ensures ∙ sym (ap (asked false (λ s. links s.kind s.address s.content c.args.other)) (first_at_left a xs ys some))
-
-pub returns-else-has_first : goal.returns-else-has_first
-returns-else-has_first g c =
-    let a = c.args.address in
-    let xs = g.A.Station.seats c.args.self.now.first in
-    let ys = g.B.Station.seats c.args.self.now.second in
-    let none : count_at a xs ≡ 0 = omega (arith, ltb-false 0 (count_at a xs) (sym c.if-has_first.ensures)) in
-    c.links-else-has_first.ensures ∙ sym (ap (asked false (λ s. links s.kind s.address s.content c.args.other)) (first_at_right a xs ys none))
+pub returns : goal.returns
+returns g c =
+    first_asked false (λ s. links s.kind s.address s.content c.args.other) c.args.address (g.A.Station.seats c.args.self.now.first) (g.B.Station.seats c.args.self.now.second) c.ask.result
+    (λ h. let said = c.ask.ensures.first h in search rules) (λ h. let said = c.ask.ensures.second h in search rules)

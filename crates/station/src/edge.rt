@@ -1,0 +1,28 @@
+// What happens to a button.
+ghost use Rattle.std.specs.Prelude.{◌≡◌};
+ghost use Rattle.station.specs.Edges.{numbered};
+
+use bus::Refusal;
+
+#[derive(Clone, Copy, PartialEq, Eq, Debug)]
+pub enum Edge {
+    Press,
+    Release,
+    LongPress,
+}
+
+// The edge of a number, as tools and logs have it.
+impl TryFrom<u8> for Edge {
+    type Error = Refusal;
+
+    ghost try_from_gives = { λ number r. r ≡ numbered number };
+
+    fn try_from(number: u8) -> Result<Self, Refusal> {
+        match number {
+            0 => Ok(Edge::Press),
+            1 => Ok(Edge::Release),
+            2 => Ok(Edge::LongPress),
+            _ => Err(Refusal::NoSuchButton),
+        }
+    }
+}
