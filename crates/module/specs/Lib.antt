@@ -1,4 +1,5 @@
 pub mod Bits
+pub mod Cells
 pub mod Designs
 pub mod Memories
 pub mod LampBytes

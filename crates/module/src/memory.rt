@@ -1,5 +1,5 @@
 // A memory of numbered cells, and the commands that read and write it.
-ghost use Rattle.std.specs.Prelude.{◌≡◌, ◌+◌, ◌^◌, ◌<◌, ◌≤◌, [], ◌∷◌, ◌++◌, List, ℕ, length, replicate, nat_le, slice_index};
+ghost use Rattle.std.specs.Prelude.{◌≡◌, ◌+◌, ◌^◌, ◌<◌, ◌≤◌, [], ◌∷◌, ◌++◌, length, replicate, nat_le, slice_index};
 ghost use Rattle.bus.specs.Frames.{byte};
 ghost use Rattle.bus.specs.Outboxes.{Room, Sends};
 ghost use Rattle.station.specs.Rules.{cell as cell_number, put, stored};
@@ -7,21 +7,12 @@ ghost use Rattle.station.specs.Seats.{nth};
 ghost use Rattle.module.specs.Memories.{cell_frame, block_frame, memory_sent};
 
 use bus::{Frame, Outbox};
-use std::marker::Model;
 
-// Has N cells; a fresh cell is 0xFF.
+// Has N cells; a fresh cell is 0xFF. A model would hide from callers how many there are, which their laws need.
 #[derive(Drop)]
 pub struct Memory<const N: usize> {
     cells: [u8; N],
-}
-
-// In clauses a memory is its cells, in order.
-impl<const N: usize> Model for Memory<N> {
-    ghost Value = { List ℕ };
-
-    ghost view = { λ m. m.cells };
-
-    ghost invariant = { λ m. length m.cells ≡ N };
+    ghost full: { length cells ≡ N },
 }
 
 // The cell that a memory command names, high byte first.
@@ -41,7 +32,7 @@ pub fn byte_at(bytes: &[u8], place: usize) -> Option<u8>
 
 impl<const N: usize> Memory<N> {
     pub fn new() -> Self
-        ensures { result ≡ replicate N 255 }
+        ensures { result.cells ≡ replicate N 255 }
     {
         Memory { cells: [0xFF; N] }
     }
@@ -49,21 +40,21 @@ impl<const N: usize> Memory<N> {
     // Whether so many cells from one on lie in the memory.
     fn has(&self, cell: usize, count: usize) -> bool
         requires { cell + count < 2 ^ 64 }
-        ensures { result ≡ nat_le (cell + count) (length self.now) }
+        ensures { result ≡ nat_le (cell + count) N }
     {
-        cell + count <= self.cells.as_slice().len()
+        cell + count <= N
     }
 
     // The byte in a cell; 0 past the last one.
     pub fn read(&self, cell: usize) -> u8
-        ensures { result ≡ slice_index self.now cell }
+        ensures { result ≡ slice_index self.now.cells cell }
     {
         self.cells.get(cell).copied().unwrap_or(0)
     }
 
     // The byte at a place of a record: the cells, then the state bytes.
     pub fn byte(&self, state: &[u8], place: usize) -> Option<u8>
-        ensures { result ≡ nth place (self.now ++ state.now) }
+        ensures { result ≡ nth place (self.now.cells ++ state.now) }
     {
         match self.cells.get(place) {
             Some(byte) => Some(*byte),
@@ -73,8 +64,8 @@ impl<const N: usize> Memory<N> {
 
     // Puts the four bytes of a block write in, from a cell on.
     fn write_block(&mut self, cell: usize, frame: &Frame)
-        requires { cell + 4 ≤ length self.old }
-        ensures { self.new ≡ put self.old cell (byte frame.now 3 ∷ byte frame.now 4 ∷ byte frame.now 5 ∷ byte frame.now 6 ∷ []) }
+        requires { cell + 4 ≤ N }
+        ensures { self.new.cells ≡ put self.old.cells cell (byte frame.now 3 ∷ byte frame.now 4 ∷ byte frame.now 5 ∷ byte frame.now 6 ∷ []) }
     {
         let [_, _, _, a, b, c, d, _] = frame.bytes;
         let cells = &mut self.cells[..];
@@ -83,8 +74,8 @@ impl<const N: usize> Memory<N> {
 
     // One cell as a frame.
     fn cell_frame(&self, own: u8, frame: &Frame, cell: usize) -> Frame
-        requires { (cell < length self.now) × (cell ≡ cell_number frame.now) }
-        ensures { result ≡ cell_frame own frame.now self.now }
+        requires { (cell < N) × (cell ≡ cell_number frame.now) }
+        ensures { result ≡ cell_frame own frame.now self.now.cells }
     {
         Frame::new(
             3,
@@ -105,8 +96,8 @@ impl<const N: usize> Memory<N> {
 
     // Four cells as a frame.
     fn block_frame(&self, own: u8, frame: &Frame, cell: usize) -> Frame
-        requires { (cell + 4 ≤ length self.now) × (cell ≡ cell_number frame.now) }
-        ensures { result ≡ block_frame own frame.now self.now }
+        requires { (cell + 4 ≤ N) × (cell ≡ cell_number frame.now) }
+        ensures { result ≡ block_frame own frame.now self.now.cells }
     {
         Frame::new(
             3,
@@ -128,8 +119,8 @@ impl<const N: usize> Memory<N> {
     // Obeys a memory command; any other frame does nothing here.
     pub fn obey(&mut self, own: u8, frame: &Frame, out: &mut Outbox)
         requires { Room out.old 1 }
-        ensures after { self.new ≡ stored self.old frame.now }
-        ensures sent { Sends out.old out.new (memory_sent own self.old frame.now) }
+        ensures after { self.new.cells ≡ stored self.old.cells frame.now }
+        ensures sent { Sends out.old out.new (memory_sent own self.old.cells frame.now) }
     {
         let cell = cell_of(frame);
         if frame.is_command(0xFD, 3) {
