@@ -22,7 +22,8 @@ use Rattle.interface.specs.States.{State, encoded, decoded}
 use Rattle.interface.proofs.Orderly.{Forms, all_clock, all_command, all_pushed}
 use Rattle.button_laws.specs.Clocks.{NewClockIsReal, ClockStaysReal, TellsRealTime, EveryTimeShownIsReal, second_of_week, sets, ClockKeepsTime, ClockIsSet, SetOnlyForAll, ClockIsTold}
 use Rattle.button_laws.specs.Interfaces.{interface_kind, EveryInterface, seconds, time}
-use Rattle.button_laws.proofs.Eight.{length-held_after, length-ticked, length-by_records, told}
+use Rattle.interface.proofs.Decoded.{told}
+use Rattle.button_laws.proofs.Eight.{length-held_after, length-ticked, length-by_records}
 
 pub new_clock_is_real : NewClockIsReal
 new_clock_is_real = record { day = omega arith; hour = omega arith; minute = omega arith; second = omega arith }

@@ -10,8 +10,6 @@ use Rattle.timing.specs.Holds.{obeyed, ticked}
 use Rattle.interface.specs.declared.model.Model.{Model}
 use Rattle.interface.specs.Channels.{hold_on, on_named, held_after, all_ticked}
 use Rattle.interface.specs.Links.{link_byte, matches, asked, by_record, in_turn, by_records}
-use Rattle.interface.specs.States.{State, encoded, decoded}
-use Rattle.interface.proofs.Decoded.{decoded_encoded}
 use Rattle.button_laws.specs.Holding.{record_acts}
 
 -- what holds of each number from 1 to 8
@@ -130,26 +128,3 @@ module _ (channel : ℕ) (low : 1 ≤ channel) (high : channel ≤ 8) where
       in_turn_single (by_record m.channels cells f) l k (length-by_record m.channels cells f)
       (λ hs e. ap (λ t. hold_on t channel) (cond-true (matches cells f k) (held_after (asked (link_byte cells k 2) (link_byte cells k 3)) bits hs) hs both.0) ∙ (ap (λ t. hold_on (held_after t bits hs) channel) asks ∙ named_obeys channel low high l bits hs e named))
       0 51 (omega arith) (omega arith) (λ j _ t other. record_keeps channel low high m cells f j (others j (omega arith) other))
-
--- eight holds, one by one
-eight : (hs : List ℕ) → length hs ≡ 8 → hs ≡ get_or hs 0 0 ∷ get_or hs 1 0 ∷ get_or hs 2 0 ∷ get_or hs 3 0 ∷ get_or hs 4 0 ∷ get_or hs 5 0 ∷ get_or hs 6 0 ∷ get_or hs 7 0 ∷ []
-eight [] e = absurd (omega arith)
-eight (a ∷ []) e = absurd (omega arith)
-eight (a ∷ b ∷ []) e = absurd (omega arith)
-eight (a ∷ b ∷ c ∷ []) e = absurd (omega arith)
-eight (a ∷ b ∷ c ∷ d ∷ []) e = absurd (omega arith)
-eight (a ∷ b ∷ c ∷ d ∷ f ∷ []) e = absurd (omega arith)
-eight (a ∷ b ∷ c ∷ d ∷ f ∷ g ∷ []) e = absurd (omega arith)
-eight (a ∷ b ∷ c ∷ d ∷ f ∷ g ∷ h ∷ []) e = absurd (omega arith)
-eight (a ∷ b ∷ c ∷ d ∷ f ∷ g ∷ h ∷ i ∷ []) e = refl
-eight (a ∷ b ∷ c ∷ d ∷ f ∷ g ∷ h ∷ i ∷ j ∷ more) e = absurd (omega arith)
-
--- the state bytes of a state with eight holds tell it
-pub told : (x : State) → length x.holds ≡ 8 → decoded (encoded x) ≡ x
-told x e =
-    let with : List ℕ → State = λ hs. record { lamps = x.lamps; pressed = x.pressed; holds = hs; clock = x.clock } in
-    let apart = eight x.holds e in
-    let hs = x.holds in
-    ap (λ t. decoded (encoded (with t))) apart
-    ∙ (decoded_encoded x.lamps x.pressed (get_or hs 0 0) (get_or hs 1 0) (get_or hs 2 0) (get_or hs 3 0) (get_or hs 4 0) (get_or hs 5 0) (get_or hs 6 0) (get_or hs 7 0) x.clock []
-    ∙ ap with (sym apart))

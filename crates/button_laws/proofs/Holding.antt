@@ -21,7 +21,8 @@ use Rattle.interface.specs.Interfaces.{commanded, after_command, after_broadcast
 use Rattle.interface.specs.States.{State, encoded, decoded}
 use Rattle.button_laws.specs.Holding.{names, AsksNothing, NoneAsks, Held, HoldEnds, HoldStays, LockSetsTheHold, LockEnds, UnlockFrees, SingleRecordObeyed, LockedIgnoresPushes}
 use Rattle.button_laws.specs.Interfaces.{interface_kind, EveryInterface, hold, seconds}
-use Rattle.button_laws.proofs.Eight.{length-held_after, length-ticked, ticked_at, held_after_keeps, named_obeys, by_records_keeps, by_records_single, length-by_records, told}
+use Rattle.interface.proofs.Decoded.{told}
+use Rattle.button_laws.proofs.Eight.{length-held_after, length-ticked, ticked_at, held_after_keeps, named_obeys, by_records_keeps, by_records_single, length-by_records}
 
 -- what an event makes of a hold that it asks nothing of
 abbrev moved : Event → ℕ → ℕ

@@ -11,16 +11,13 @@ use module::{Module, ModuleKind};
 use station::Edge;
 
 // Every channel bit counts.
-fn model() -> Model
-    ensures { result ≡ model }
-{
-    Model {
-        code: 0x16,
-        buttons: 8,
-        channels: 0xFF,
-    }
-}
+const MODEL: Model = Model {
+    code: 0x16,
+    buttons: 8,
+    channels: 0xFF,
+};
 
+#[tactic(auto, using(interface::proofs::Decoded::interface_told))]
 impl Module for ButtonInterface {
     ghost design = { λ b. design b.setup };
 
@@ -31,7 +28,7 @@ impl Module for ButtonInterface {
     ghost sized = { Prim.search rules };
 
     fn command(&mut self, own: u8, frame: &Frame, out: &mut Outbox) {
-        self.interface.command(model(), self.setup, own, frame, out);
+        self.interface.command(MODEL, self.setup, own, frame, out);
     }
 
     fn broadcast(&mut self, own: u8, frame: &Frame, out: &mut Outbox) {
@@ -39,7 +36,7 @@ impl Module for ButtonInterface {
     }
 
     fn status(&mut self, _own: u8, frame: &Frame, _out: &mut Outbox) {
-        self.interface.status(model(), frame);
+        self.interface.status(MODEL, frame);
     }
 
     fn second(&mut self, _own: u8, _out: &mut Outbox) {
@@ -47,7 +44,7 @@ impl Module for ButtonInterface {
     }
 
     fn push(&mut self, own: u8, channel: u8, edge: Edge, out: &mut Outbox) {
-        self.interface.push(model(), own, channel, edge, out);
+        self.interface.push(MODEL, own, channel, edge, out);
     }
 
     fn names(&self, _own: u8, address: u8) -> bool {

@@ -1,7 +1,7 @@
 -- How a button interface of some model is designed. Assumes nothing.
 use Rattle.std.specs.Prelude.{ℕ, cond, ◌&&◌, List, [], ◌∷◌, ◌++◌, Some, None, Option, ◌==◌, bit_and}
 use Rattle.bus.specs.declared.frame.Frame.{Frame}
-use Rattle.bus.specs.Frames.{byte, seconds_in, is_command, message}
+use Rattle.bus.specs.Frames.{byte, seconds_in, is_command, is_type_request, message}
 use Rattle.station.specs.declared.edge.Edge.{Edge}
 use Rattle.station.specs.Kinds.{Outcome}
 use Rattle.station.specs.Rules.{stored}
@@ -39,7 +39,7 @@ setup_bytes s = s.serial.high ∷ s.serial.low ∷ s.map ∷ s.year ∷ s.week �
 
 -- RTR asks for the type, 0xFF
 abbrev pub type_sent : Model → InterfaceSetup → ℕ → Frame → List Frame
-type_sent m s own f = cond (f.rtr == 1 && f.count == 0) (message 3 own (0xFF ∷ m.code ∷ setup_bytes s) ∷ []) []
+type_sent m s own f = cond (is_type_request f) (message 3 own (0xFF ∷ m.code ∷ setup_bytes s) ∷ []) []
 
 -- 0xD7 asks for the time, 0xD8
 abbrev pub clock_sent : ℕ → Time → Frame → List Frame

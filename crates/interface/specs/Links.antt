@@ -7,11 +7,17 @@ use Rattle.module.specs.Searches.{first}
 use Rattle.timing.specs.declared.locking.Locking.{Locking}
 use Rattle.timing.specs.declared.locking.Locking.TheVariants.{Lock, Toggle, Unlock}
 use Rattle.timing.specs.TimeCodes.{hold_of_code}
+use Rattle.interface.specs.declared.link.Link.{Link}
 use Rattle.interface.specs.Channels.{held_after}
 
 -- a byte of link record k: 0 its address, 1 button bits, 2 action, 3 time code, 4 channel bits
 abbrev pub link_byte : List ℕ → ℕ → ℕ → ℕ
 link_byte cells k n = slice_index cells (0x0100 + 5 * k + n)
+
+-- link record k
+abbrev pub link_at : List ℕ → ℕ → Link
+link_at cells k =
+    record { address = link_byte cells k 0; buttons = link_byte cells k 1; action = link_byte cells k 2; code = link_byte cells k 3; channels = link_byte cells k 4 }
 
 -- the record bears the address
 abbrev pub bears : List ℕ → ℕ → ℕ → Bool

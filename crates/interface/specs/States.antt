@@ -3,10 +3,8 @@ use Rattle.std.specs.Prelude.{ℕ, ◌+◌, ◌*◌, ◌/◌, ◌%◌, List, [],
 use Rattle.std.specs.List.{flat_map}
 use Rattle.module.specs.declared.lamps.Lamps.{Lamps}
 use Rattle.module.specs.Cells.{memory_cells}
-use Rattle.timing.specs.Shown.{shown}
 use Rattle.timing.specs.Times.{Time}
 use Rattle.interface.specs.declared.interface.Interface.{Interface}
-use Rattle.interface.specs.Shown.{all_held}
 
 -- lamps, pressed buttons, the hold on each channel, and the time
 pub record State : Type 0 where
@@ -41,7 +39,7 @@ decoded s =
 
 -- the state of an interface
 abbrev pub state_of : Interface → State
-state_of i = record { lamps = i.lamps; pressed = i.buttons.pressed; holds = all_held i.holds; clock = shown i.clock }
+state_of i = record { lamps = i.lamps; pressed = i.buttons.pressed; holds = i.holds.channels; clock = i.clock }
 
 -- the cells of its memory
 abbrev pub cells_of : Interface → List ℕ

@@ -1,21 +1,27 @@
 // The bytes of a button interface's record.
-ghost use Rattle.std.specs.Prelude.{◌≡◌, ◌++◌, take, drop};
+ghost use Rattle.std.specs.Prelude.{◌≡◌, ◌++◌};
 ghost use Rattle.station.specs.Seats.{nth};
 ghost use Rattle.interface.specs.States.{encoded, state_of, cells_of};
 
-use crate::interface::{CELLS, Interface};
-use module::{Lamps, byte_at};
+use crate::interface::Interface;
+use module::Lamps;
 
 impl Interface {
-    // The first half of the state bytes: lamps, pressed buttons, the holds on channels 1 to 4.
-    fn first_half(&self) -> [u8; 16]
-        ensures { result ≡ take 16 (encoded (state_of self.now)) }
+    // The state bytes: lamps, pressed buttons, the holds, and the time.
+    fn state(&self) -> [u8; 32]
+        ensures { result ≡ encoded (state_of self.now) }
     {
         let Lamps { on, slow, fast } = self.lamps;
-        let [a0, a1, a2] = self.holds.one.bytes();
-        let [b0, b1, b2] = self.holds.two.bytes();
-        let [c0, c1, c2] = self.holds.three.bytes();
-        let [d0, d1, d2] = self.holds.four.bytes();
+        let [one, two, three, four, five, six, seven, eight] = self.holds.channels;
+        let [a0, a1, a2] = one.bytes();
+        let [b0, b1, b2] = two.bytes();
+        let [c0, c1, c2] = three.bytes();
+        let [d0, d1, d2] = four.bytes();
+        let [e0, e1, e2] = five.bytes();
+        let [f0, f1, f2] = six.bytes();
+        let [g0, g1, g2] = seven.bytes();
+        let [h0, h1, h2] = eight.bytes();
+        let [day, hour, minute, second] = self.clock.bytes();
         [
             on,
             slow,
@@ -33,20 +39,22 @@ impl Interface {
             d0,
             d1,
             d2,
-        ]
-    }
-
-    // The second half: the holds on channels 5 to 8, and the time.
-    fn second_half(&self) -> [u8; 16]
-        ensures { result ≡ drop 16 (encoded (state_of self.now)) }
-    {
-        let [a0, a1, a2] = self.holds.five.bytes();
-        let [b0, b1, b2] = self.holds.six.bytes();
-        let [c0, c1, c2] = self.holds.seven.bytes();
-        let [d0, d1, d2] = self.holds.eight.bytes();
-        let [day, hour, minute, second] = self.clock.bytes();
-        [
-            a0, a1, a2, b0, b1, b2, c0, c1, c2, d0, d1, d2, day, hour, minute, second,
+            e0,
+            e1,
+            e2,
+            f0,
+            f1,
+            f2,
+            g0,
+            g1,
+            g2,
+            h0,
+            h1,
+            h2,
+            day,
+            hour,
+            minute,
+            second,
         ]
     }
 
@@ -54,10 +62,6 @@ impl Interface {
     pub fn byte(&self, place: usize) -> Option<u8>
         ensures { result ≡ nth place (cells_of self.now ++ encoded (state_of self.now)) }
     {
-        if place < CELLS + 16 {
-            self.memory.byte(&self.first_half(), place)
-        } else {
-            byte_at(&self.second_half(), place - (CELLS + 16))
-        }
+        self.memory.byte(&self.state(), place)
     }
 }

@@ -1,15 +1,11 @@
 // The holds on the channels.
+ghost use Rattle.std.specs.Prelude.{◌≡◌, length};
+
 use timing::Hold;
 
-// One for each of the eight channels.
+// One for each of the eight channels, from channel 1 on.
 #[derive(Clone, Copy)]
 pub struct Holds {
-    pub(crate) one: Hold,
-    pub(crate) two: Hold,
-    pub(crate) three: Hold,
-    pub(crate) four: Hold,
-    pub(crate) five: Hold,
-    pub(crate) six: Hold,
-    pub(crate) seven: Hold,
-    pub(crate) eight: Hold,
+    pub(crate) channels: [Hold; 8],
+    ghost eight: { length channels ≡ 8 },
 }

@@ -4,6 +4,7 @@
 mod bytes;
 mod holds;
 mod interface;
+mod link;
 mod links;
 mod locks;
 mod model;

@@ -2,7 +2,6 @@
 ghost use Rattle.std.specs.Prelude.{◌≡◌, replicate};
 ghost use Rattle.bus.specs.Outboxes.{Room, Sends};
 ghost use Rattle.station.specs.Rules.{stored};
-ghost use Rattle.timing.specs.Shown.{shown};
 ghost use Rattle.timing.specs.Times.{midnight};
 ghost use Rattle.interface.specs.Interfaces.{commanded, clock_after, status_sent, type_sent, clock_sent, after_command, command_sent, after_broadcast, after_status, after_second, after_push, pushed_sent};
 ghost use Rattle.interface.specs.Links.{named};
@@ -39,7 +38,7 @@ fn answer_type(model: Model, setup: InterfaceSetup, own: u8, frame: &Frame, out:
     requires { Room out.old 1 }
     ensures { Sends out.old out.new (type_sent model setup own frame.now) }
 {
-    if frame.rtr == 1 && frame.count == 0 {
+    if frame.is_type_request() {
         let InterfaceSetup {
             serial: Serial { high, low },
             map,
@@ -54,7 +53,7 @@ fn answer_type(model: Model, setup: InterfaceSetup, own: u8, frame: &Frame, out:
 // Answers a request for the time.
 fn answer_clock(clock: &Clock, own: u8, frame: &Frame, out: &mut Outbox)
     requires { Room out.old 1 }
-    ensures { Sends out.old out.new (clock_sent own (shown clock.now) frame.now) }
+    ensures { Sends out.old out.new (clock_sent own clock.now frame.now) }
 {
     if frame.is_command(0xD7, 1) {
         let [day, hour, minute, _] = clock.bytes();
@@ -64,7 +63,7 @@ fn answer_clock(clock: &Clock, own: u8, frame: &Frame, out: &mut Outbox)
 
 // Sets the clock, where the frame asks that of all modules.
 fn set_clock(clock: &mut Clock, frame: &Frame)
-    ensures { shown clock.new ≡ clock_after (shown clock.old) frame.now }
+    ensures { clock.new ≡ clock_after clock.old frame.now }
 {
     if frame.address == 0 && frame.is_command(0xD8, 4) {
         clock.set(frame.bytes[1], frame.bytes[2], frame.bytes[3]);
@@ -100,6 +99,7 @@ impl Interface {
     }
 
     // A frame with the own address.
+    #[tactic(auto, using(bus::proofs::Outboxes::sends_both, bus::proofs::Outboxes::room_left, module::proofs::Sent::one_at_most, module::proofs::Sent::memory_sends_one))]
     pub fn command(
         &mut self,
         model: Model,

@@ -1,23 +1,20 @@
--- The steps of a search for the first number that passes a test. Assumes nothing.
-use Rattle.std.proofs.Common.{◌≡◌, ℕ, zero, suc, ◌+◌, ◌-◌, ◌<◌, Bool, true, false, Some, None, refl, ap, ◌∙◌, arith}
-use Rattle.std.proofs.lemmas.Bool.{cond-true, cond-false}
+-- A search for the first number that passes a test is one over the list of the numbers. Assumes nothing.
+use Rattle.std.proofs.Common.{◌≡◌, ℕ, zero, suc, ◌+◌, Bool, true, false, cond, ◌||◌, List, [], ◌∷◌, is_some, Some, None, refl, ap, ◌∙◌, arith}
+use Rattle.std.specs.List.{find, list_any, range_with_len}
 use Rattle.module.specs.Searches.{first}
 
 module _ (test : ℕ → Bool) where
-  pub first_skip : (i n : ℕ) → test i ≡ false → 0 < n → first test i n ≡ first test (i + 1) (n - 1)
+  pub first-find : (i n : ℕ) → first test i n ≡ find test (range_with_len i n)
   unfolding first
-  first_skip i zero t h = absurd (omega arith)
-  first_skip i (suc n) t h =
-      let down : n ≡ suc n - 1 = omega arith in
+  first-find i zero = refl
+  first-find i (suc n) =
       let up : suc i ≡ i + 1 = omega arith in
-      cond-false (test i) _ _ t ∙ (ap (λ k. first test k n) up ∙ ap (first test (i + 1)) down)
+      ap (cond (test i) (Some i)) (first-find (suc i) n ∙ ap (λ k. find test (range_with_len k n)) up)
 
-  pub first_hit : (i n : ℕ) → test i ≡ true → 0 < n → first test i n ≡ Some i
-  unfolding first
-  first_hit i zero t h = absurd (omega arith)
-  first_hit i (suc n) t h = cond-true (test i) _ _ t
-
-  pub first_none : (i n : ℕ) → n ≡ 0 → first test i n ≡ None
-  unfolding first
-  first_none i zero h = refl
-  first_none i (suc n) h = absurd (omega arith)
+  pub is_some-find : (xs : List ℕ) → is_some (find test xs) ≡ list_any test xs
+  is_some-find [] = refl
+  is_some-find (x ∷ xs) = by (test x) (is_some-find xs)
+    where
+      by : (b : Bool) → is_some (find test xs) ≡ list_any test xs → is_some (cond b (Some x) (find test xs)) ≡ (b || list_any test xs)
+      by true h = refl
+      by false h = h

@@ -1,7 +1,7 @@
 -- How the panel is designed, and what a panel remembers. Assumes nothing.
 use Rattle.std.specs.Prelude.{false, cond, ◌&&◌, List, [], ◌∷◌, ◌++◌, ◌==◌, ℕ, slice_index}
 use Rattle.bus.specs.declared.frame.Frame.{Frame}
-use Rattle.bus.specs.Frames.{is_command, message}
+use Rattle.bus.specs.Frames.{is_command, is_type_request, message}
 use Rattle.station.specs.declared.edge.Edge.{Edge}
 use Rattle.station.specs.Kinds.{Record, Outcome}
 use Rattle.station.specs.Rules.{stored}
@@ -31,7 +31,7 @@ status_sent own l pressed f = cond (is_command 0xFA 2 f) (message 3 own (0xED �
 -- RTR asks for the type, 0xFF with 0x0B
 abbrev pub type_sent : ℕ → PanelSetup → Lamps → Frame → List Frame
 type_sent own s l f =
-    cond (f.rtr == 1 && f.count == 0) (message 3 own (0xFF ∷ 0x0B ∷ l.on ∷ l.slow ∷ l.fast ∷ s.year ∷ s.week ∷ 0 ∷ []) ∷ []) []
+    cond (is_type_request f) (message 3 own (0xFF ∷ 0x0B ∷ l.on ∷ l.slow ∷ l.fast ∷ s.year ∷ s.week ∷ 0 ∷ []) ∷ []) []
 
 -- a frame with the own address; each kind of command does its part, and no two know the same frame
 abbrev pub command : PanelSetup → ℕ → Record → Frame → Outcome

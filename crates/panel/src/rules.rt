@@ -27,7 +27,7 @@ impl Panel {
         requires { Room out.old 1 }
         ensures { Sends out.old out.new (type_sent own self.now.setup self.now.lamps frame.now) }
     {
-        if frame.rtr == 1 && frame.count == 0 {
+        if frame.is_type_request() {
             let Lamps { on, slow, fast } = self.lamps;
             let PanelSetup { year, week } = self.setup;
             let bytes = [0xFF, 0x0B, on, slow, fast, year, week, 0];
@@ -45,6 +45,7 @@ impl Module for Panel {
 
     ghost sized = { Prim.search rules };
 
+    #[tactic(auto, using(bus::proofs::Outboxes::sends_both, bus::proofs::Outboxes::room_left, module::proofs::Sent::one_at_most, module::proofs::Sent::memory_sends_one))]
     fn command(&mut self, own: u8, frame: &Frame, out: &mut Outbox) {
         self.memory.obey(own, frame, out);
         self.answer_status(own, frame, out);

@@ -18,6 +18,7 @@ pub struct Rail<A, B> {
 }
 
 // Lets one station act after the other, as if they were one.
+#[tactic(auto, using(bus::proofs::Outboxes::sends_both, bus::proofs::Outboxes::room_left, crate::specs::SeatsLemmas::few_sent))]
 fn act_in_turn<A: Station, B: Station>(
     first: &mut A,
     second: &mut B,
@@ -61,6 +62,7 @@ impl<A: Station, B: Station> Rail<A, B> {
     }
 }
 
+#[tactic(auto, using(crate::proofs::Joined::joined))]
 impl<A: Station, B: Station> Station for Rail<A, B> {
     ghost seats = { λ r. A.Station.seats r.first ++ B.Station.seats r.second };
 

@@ -33,6 +33,7 @@ impl<S: Station> Station for Sieve<S> {
 
     ghost stands = { Prim.search rules };
 
+    #[tactic(auto, using(bus::proofs::Outboxes::sends_none, crate::specs::SeatsLemmas::stopped_same, crate::specs::SeatsLemmas::stopped_mute))]
     fn act(&mut self, event: Event, out: &mut Outbox)
         requires { Room out.old (places (S.Station.seats self.old.below)) }
         ensures after { S.Station.seats self.new.below ≡ after_all event (S.Station.seats self.old.below) }

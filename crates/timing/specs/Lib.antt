@@ -1,4 +1,3 @@
 pub mod TimeCodes
 pub mod Holds
 pub mod Times
-pub mod Shown

@@ -1,5 +1,5 @@
 // A clock for the week.
-ghost use Rattle.std.specs.Prelude.{◌<◌};
+use std::marker::Model;
 
 // Day 0 is Monday. There is no other time than a real one.
 #[derive(Clone, Copy)]
@@ -8,8 +8,17 @@ pub struct Clock {
     pub(crate) hour: u8,
     pub(crate) minute: u8,
     pub(crate) second: u8,
-    ghost days: { day < 7 },
-    ghost hours: { hour < 24 },
-    ghost minutes: { minute < 60 },
-    ghost seconds: { second < 60 },
+}
+
+// In clauses a clock is the time that it shows.
+impl Model for Clock {
+    ghost use Rattle.timing.specs.Times.{Time, Real};
+
+    ghost Value = { Time };
+
+    ghost view = { λ c. record { day = c.day; hour = c.hour; minute = c.minute; second = c.second } };
+
+    ghost invariant = { λ c. Real (record { day = c.day; hour = c.hour; minute = c.minute; second = c.second }) };
+
+    ghost inverse = { λ t. record { day = t.day; hour = t.hour; minute = t.minute; second = t.second } };
 }

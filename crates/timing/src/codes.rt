@@ -1,6 +1,6 @@
 // The times that a byte of a link record stands for.
-ghost use Rattle.std.specs.Prelude.{◌≡◌, ◌<◌, true};
-ghost use Rattle.timing.specs.TimeCodes.{by_rule, by_stretch, stretches, seconds_of_code, hold_of_code};
+ghost use Rattle.std.specs.Prelude.{◌≡◌, true};
+ghost use Rattle.timing.specs.TimeCodes.{by_rule, seconds_of_code, hold_of_code};
 
 // The seconds of the codes 0 to 251.
 const SECONDS: [u32; 252] = [
@@ -21,22 +21,18 @@ const SECONDS: [u32; 252] = [
 ];
 
 // An entry of a table that has passed the test of the rule.
-fn entry(table: &[u32; 252], code: u8) -> u32
-    requires { (code < 252) × (by_rule 0 table.now ≡ true) }
-    ensures { result ≡ by_stretch stretches code }
+fn entry(table: &[u32; 252], code: u8) -> Option<u32>
+    requires { by_rule 0 table.now ≡ true }
+    ensures { result ≡ seconds_of_code code }
 {
-    table[usize::from(code)]
+    table.get(usize::from(code)).copied()
 }
 
 // The seconds of a code; the last four codes have none.
 pub fn seconds_of_code(code: u8) -> Option<u32>
     ensures { result ≡ seconds_of_code code }
 {
-    if code < 252 {
-        Some(entry(&SECONDS, code))
-    } else {
-        None
-    }
+    entry(&SECONDS, code)
 }
 
 // The hold of a code: code 0 asks for no timer, so that hold has no end.

@@ -1,7 +1,6 @@
 // How a clock moves.
 ghost use Rattle.std.specs.Prelude.{◌≡◌, ◌<◌, ◌≤◌, [], ◌∷◌};
-ghost use Rattle.timing.specs.Times.{midnight, set_to, next, a_second_later};
-ghost use Rattle.timing.specs.Shown.{shown};
+ghost use Rattle.timing.specs.Times.{Real, midnight, set_to, next, a_second_later};
 
 use crate::clock::Clock;
 
@@ -23,7 +22,7 @@ fn next(moves: bool, last: u8, value: u8) -> u8
 impl Clock {
     // Monday, midnight.
     pub fn new() -> Self
-        ensures { shown result ≡ midnight }
+        ensures { result ≡ midnight }
     {
         Clock {
             day: 0,
@@ -35,7 +34,7 @@ impl Clock {
 
     // Sets it to a full minute; a time that does not exist leaves it as it was.
     pub fn set(&mut self, day: u8, hour: u8, minute: u8)
-        ensures { shown self.new ≡ set_to day hour minute (shown self.old) }
+        ensures { self.new ≡ set_to day hour minute self.old }
     {
         if day < 7 && hour < 24 && minute < 60 {
             *self = Clock {
@@ -49,7 +48,7 @@ impl Clock {
 
     // A second passes.
     pub fn tick(&mut self)
-        ensures { shown self.new ≡ a_second_later (shown self.old) }
+        ensures { self.new ≡ a_second_later self.old }
     {
         let minute_ends = self.second == 59;
         let hour_ends = minute_ends && self.minute == 59;
@@ -64,7 +63,8 @@ impl Clock {
 
     // Day, hour, minute and second.
     pub fn bytes(&self) -> [u8; 4]
-        ensures { result ≡ (shown self.now).day ∷ (shown self.now).hour ∷ (shown self.now).minute ∷ (shown self.now).second ∷ [] }
+        ensures value { result ≡ self.now.day ∷ self.now.hour ∷ self.now.minute ∷ self.now.second ∷ [] }
+        ensures real { Real self.now }
     {
         [self.day, self.hour, self.minute, self.second]
     }

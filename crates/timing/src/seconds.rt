@@ -1,7 +1,6 @@
 // What happens to a hold.
-ghost use Rattle.std.specs.Prelude.{◌≡◌, ◌/◌, ◌%◌, [], ◌∷◌};
+ghost use Rattle.std.specs.Prelude.{◌≡◌, ◌/◌, ◌%◌, ◌≤◌, [], ◌∷◌};
 ghost use Rattle.timing.specs.Holds.{locked, hold_for, obeyed, ticked};
-ghost use Rattle.timing.specs.Shown.{held};
 
 use crate::hold::Hold;
 use crate::locking::Locking;
@@ -9,14 +8,14 @@ use crate::locking::Locking;
 impl Hold {
     // None: the channel is free.
     pub fn free() -> Self
-        ensures { held result ≡ 0 }
+        ensures { result ≡ 0 }
     {
         Hold { seconds: 0 }
     }
 
     // For a time; from 0xFFFFFF on it has no end.
     fn lasting(time: u32) -> Self
-        ensures { held result ≡ hold_for time }
+        ensures { result ≡ hold_for time }
     {
         Hold {
             seconds: time.min(0xFFFFFF),
@@ -24,14 +23,14 @@ impl Hold {
     }
 
     pub fn is_locked(&self) -> bool
-        ensures { result ≡ locked (held self.now) }
+        ensures { result ≡ locked self.now }
     {
         self.seconds > 0
     }
 
     // Does what is asked.
     pub fn obey(&mut self, locking: Locking)
-        ensures { held self.new ≡ obeyed locking (held self.old) }
+        ensures { self.new ≡ obeyed locking self.old }
     {
         *self = match locking {
             Locking::Lock(time) => Hold::lasting(time),
@@ -42,7 +41,7 @@ impl Hold {
 
     // A second passes.
     pub fn tick(&mut self)
-        ensures { held self.new ≡ ticked (held self.old) }
+        ensures { self.new ≡ ticked self.old }
     {
         if self.seconds != 0 && self.seconds != 0xFFFFFF {
             self.seconds -= 1;
@@ -51,9 +50,10 @@ impl Hold {
 
     // The three bytes in the record, high byte first.
     pub fn bytes(&self) -> [u8; 3]
-        ensures { result ≡ held self.now / 65536 ∷ held self.now / 256 % 256 ∷ held self.now % 256 ∷ [] }
+        ensures value { result ≡ self.now / 65536 ∷ self.now / 256 % 256 ∷ self.now % 256 ∷ [] }
+        ensures narrow { self.now ≤ 0xFFFFFF }
     {
-        let n = self.seconds;
-        [(n / 65536) as u8, (n / 256 % 256) as u8, (n % 256) as u8]
+        let [_, high, mid, low] = self.seconds.to_be_bytes();
+        [high, mid, low]
     }
 }
