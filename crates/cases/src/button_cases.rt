@@ -1,7 +1,7 @@
 // The button interface at 20, with a panel at 30 on the same bus.
 use crate::fixture::Input::{Push, Put, Second, Seconds};
-use crate::fixture::{Input, button_case, frame, interface};
-use bus::Outbox;
+use crate::fixture::{Input, button_case, interface};
+use bus::{Frame, Outbox};
 use buttons::ButtonInterface;
 use module::{Module, ModuleKind, Seat};
 use station::{Edge, Event, Push as Pushed, Station};
@@ -490,7 +490,7 @@ fn state_bytes(rt: HostRuntime) -> Result<(), Fail> {
         [3, 0x00, 0, 4, 0xD8, 5, 22, 45, 0, 0, 0, 0],
     ];
     for body in bodies {
-        act(heap, &mut seat, Event::Heard(frame(body)))?;
+        act(heap, &mut seat, Event::Heard(Frame::from(body)))?;
     }
     let push = Pushed {
         address: 0x20,
@@ -540,7 +540,7 @@ fn lamp_bytes(rt: HostRuntime) -> Result<(), Fail> {
         [3, 0x20, 0, 5, 0xF4, 1, 1, 1, 0, 0, 0, 0],
     ];
     for body in bodies {
-        act(heap, &mut seat, Event::Heard(frame(body)))?;
+        act(heap, &mut seat, Event::Heard(Frame::from(body)))?;
     }
     let mut expected = [0; 32];
     expected[0] = 0x70;

@@ -17,26 +17,6 @@ pub(crate) type Modules = Rail<Seat<Panel>, Sieve<Seat<Relay>>>;
 // A panel at 30 and a button interface at 20.
 pub(crate) type Buttons = Rail<Seat<Panel>, Seat<ButtonInterface>>;
 
-pub(crate) const EMPTY: Frame = Frame {
-    priority: 0,
-    address: 0,
-    rtr: 0,
-    count: 0,
-    bytes: [0; 8],
-};
-
-// A frame as a log has it: priority, address, RTR, count, eight data bytes.
-pub(crate) fn frame(body: [u8; 12]) -> Frame {
-    let [priority, address, rtr, count, a, b, c, d, e, f, g, h] = body;
-    Frame {
-        priority,
-        address,
-        rtr,
-        count,
-        bytes: [a, b, c, d, e, f, g, h],
-    }
-}
-
 // Timer 1 runs for 5 seconds and timer 2 for 70,000; those of channel 4 are out of range at both ends.
 pub(crate) fn modules() -> Modules {
     let timers = Timers {
@@ -88,10 +68,7 @@ pub(crate) fn house(heap: Global) -> Result<House<Modules>, Fail> {
 }
 
 fn house_over<S: Station + Drop>(heap: Global, station: S) -> Result<House<S>, Fail> {
-    match House::new(heap, station) {
-        Ok(house) => Ok(house),
-        Err(_) => Err(Fail::new("no memory")),
-    }
+    House::new(heap, station).map_err(|_| Fail::new("no memory"))
 }
 
 // Something that is done: a frame is put, a button pushed, or seconds pass.
@@ -136,15 +113,15 @@ fn check_case<S: Station + Drop>(
     }
     assert_eq!(rt; sent.len(), expected.len());
     for (got, body) in sent.iter().zip(expected.iter()) {
-        assert_eq!(rt; *got, frame(*body));
+        assert_eq!(rt; *got, Frame::from(*body));
     }
     Ok(())
 }
 
 fn act<S: Station>(house: &mut House<S>, input: Input, sent: &mut Vec<Frame>) -> Result<(), Fail> {
-    let mut buffer = [EMPTY; 18];
+    let mut buffer = [Frame::default(); 18];
     match input {
-        Input::Put(body) => served(house.put(frame(body))),
+        Input::Put(body) => served(house.put(Frame::from(body))),
         Input::Push(address, channel, edge) => {
             let (count, _) = served(house.push(address, channel, edge, &mut buffer))?;
             keep(&buffer, count, sent)
@@ -161,7 +138,7 @@ fn act<S: Station>(house: &mut House<S>, input: Input, sent: &mut Vec<Frame>) ->
 }
 
 fn second<S: Station>(house: &mut House<S>, sent: &mut Vec<Frame>) -> Result<(), Fail> {
-    let mut buffer = [EMPTY; 18];
+    let mut buffer = [Frame::default(); 18];
     let (count, _) = served(house.second(&mut buffer))?;
     keep(&buffer, count, sent)
 }
@@ -171,7 +148,7 @@ fn settle<S: Station>(house: &mut House<S>, sent: &mut Vec<Frame>) -> Result<(),
         if house.pending() == 0 {
             break;
         }
-        let mut buffer = [EMPTY; 18];
+        let mut buffer = [Frame::default(); 18];
         let (count, _) = served(house.step(&mut buffer))?;
         keep(&buffer, count, sent)?;
     }
@@ -179,18 +156,13 @@ fn settle<S: Station>(house: &mut House<S>, sent: &mut Vec<Frame>) -> Result<(),
 }
 
 fn keep(buffer: &[Frame], count: usize, sent: &mut Vec<Frame>) -> Result<(), Fail> {
-    for frame in buffer.iter().take(count) {
-        sent.push(*frame)?;
-    }
+    sent.extend(buffer.iter().take(count))?;
     Ok(())
 }
 
 // What a call answered, unless it was refused.
 pub(crate) fn served<T>(answer: Result<T, Refusal>) -> Result<T, Fail> {
-    match answer {
-        Ok(value) => Ok(value),
-        Err(_) => Err(Fail::new("refused")),
-    }
+    answer.map_err(|_| Fail::new("refused"))
 }
 
 // The call must be refused with that number.
@@ -199,11 +171,9 @@ pub(crate) fn refused<T: Drop>(
     answer: Result<T, Refusal>,
     number: u8,
 ) -> Result<(), Fail> {
-    match answer {
-        Ok(_) => Err(Fail::new("served")),
-        Err(refusal) => {
-            assert_eq!(rt; refusal.number(), number);
-            Ok(())
-        },
-    }
+    let Err(refusal) = answer else {
+        return Err(Fail::new("served"));
+    };
+    assert_eq!(rt; refusal.number(), number);
+    Ok(())
 }

@@ -1,6 +1,7 @@
 // What the calls of a house refuse, and what a second does.
 use crate::fixture::Input::{Put, Second};
-use crate::fixture::{EMPTY, case, frame, house, refused, served};
+use crate::fixture::{case, house, refused, served};
+use bus::Frame;
 use std::test::*;
 
 // Each rule of a frame, broken alone.
@@ -16,26 +17,26 @@ fn ill_formed_frames(rt: HostRuntime) -> Result<(), Fail> {
         [3, 0x20, 0, 0, 0, 0, 0, 0, 0, 0, 0, 1],
     ];
     for body in bad {
-        refused(&rt, house.put(frame(body)), 5)?;
+        refused(&rt, house.put(Frame::from(body)), 5)?;
         assert_eq!(rt; house.pending(), 0);
     }
-    served(house.put(frame([3, 0xFF, 0, 8, 1, 2, 3, 4, 5, 6, 7, 8])))
+    served(house.put(Frame::from([3, 0xFF, 0, 8, 1, 2, 3, 4, 5, 6, 7, 8])))
 }
 
 // A put and a push need a quiet house; an ill-formed frame is refused before that.
 #[test]
 fn not_quiet(rt: HostRuntime) -> Result<(), Fail> {
     let mut house = house(rt.alloc())?;
-    let mut buffer = [EMPTY; 18];
-    served(house.put(frame([3, 0x20, 0, 0, 0, 0, 0, 0, 0, 0, 0, 0])))?;
+    let mut buffer = [Frame::default(); 18];
+    served(house.put(Frame::from([3, 0x20, 0, 0, 0, 0, 0, 0, 0, 0, 0, 0])))?;
     refused(
         &rt,
-        house.put(frame([3, 0x20, 0, 0, 0, 0, 0, 0, 0, 0, 0, 0])),
+        house.put(Frame::from([3, 0x20, 0, 0, 0, 0, 0, 0, 0, 0, 0, 0])),
         8,
     )?;
     refused(
         &rt,
-        house.put(frame([3, 0x20, 2, 0, 0, 0, 0, 0, 0, 0, 0, 0])),
+        house.put(Frame::from([3, 0x20, 2, 0, 0, 0, 0, 0, 0, 0, 0, 0])),
         5,
     )?;
     refused(&rt, house.push(0x20, 1, 0, &mut buffer), 8)?;
@@ -49,8 +50,8 @@ fn not_quiet(rt: HostRuntime) -> Result<(), Fail> {
 #[test]
 fn pushes(rt: HostRuntime) -> Result<(), Fail> {
     let mut house = house(rt.alloc())?;
-    let mut buffer = [EMPTY; 18];
-    let mut short = [EMPTY; 17];
+    let mut buffer = [Frame::default(); 18];
+    let mut short = [Frame::default(); 17];
     refused(&rt, house.push(0x21, 0, 9, &mut short), 4)?;
     refused(&rt, house.push(0x21, 0, 9, &mut buffer), 6)?;
     refused(&rt, house.push(0x20, 0, 0, &mut buffer), 7)?;
@@ -66,11 +67,11 @@ fn pushes(rt: HostRuntime) -> Result<(), Fail> {
 #[test]
 fn steps(rt: HostRuntime) -> Result<(), Fail> {
     let mut house = house(rt.alloc())?;
-    let mut buffer = [EMPTY; 18];
-    let mut short = [EMPTY; 17];
+    let mut buffer = [Frame::default(); 18];
+    let mut short = [Frame::default(); 17];
     refused(&rt, house.step(&mut buffer), 9)?;
     refused(&rt, house.step(&mut short), 4)?;
-    served(house.put(frame([3, 0x20, 0, 2, 0xFA, 0xFF, 0, 0, 0, 0, 0, 0])))?;
+    served(house.put(Frame::from([3, 0x20, 0, 2, 0xFA, 0xFF, 0, 0, 0, 0, 0, 0])))?;
     refused(&rt, house.step(&mut short), 4)?;
     let counts = served(house.step(&mut buffer))?;
     assert_eq!(rt; counts.0, 1);
@@ -82,13 +83,13 @@ fn steps(rt: HostRuntime) -> Result<(), Fail> {
 #[test]
 fn seconds(rt: HostRuntime) -> Result<(), Fail> {
     let mut house = house(rt.alloc())?;
-    let mut buffer = [EMPTY; 18];
-    let mut short = [EMPTY; 17];
+    let mut buffer = [Frame::default(); 18];
+    let mut short = [Frame::default(); 17];
     refused(&rt, house.second(&mut short), 4)?;
     let counts = served(house.second(&mut buffer))?;
     assert_eq!(rt; counts.0, 0);
     assert_eq!(rt; counts.1, 0);
-    served(house.put(frame([3, 0x20, 0, 0, 0, 0, 0, 0, 0, 0, 0, 0])))?;
+    served(house.put(Frame::from([3, 0x20, 0, 0, 0, 0, 0, 0, 0, 0, 0, 0])))?;
     refused(&rt, house.second(&mut short), 4)?;
     refused(&rt, house.second(&mut buffer), 8)?;
     assert_eq!(rt; house.pending(), 1);
@@ -100,19 +101,19 @@ fn seconds(rt: HostRuntime) -> Result<(), Fail> {
 #[test]
 fn what_a_second_sends(rt: HostRuntime) -> Result<(), Fail> {
     let mut house = house(rt.alloc())?;
-    let mut buffer = [EMPTY; 18];
-    served(house.put(frame([3, 0x10, 0, 5, 0x03, 0x05, 0, 0, 1, 0, 0, 0])))?;
+    let mut buffer = [Frame::default(); 18];
+    served(house.put(Frame::from([3, 0x10, 0, 5, 0x03, 0x05, 0, 0, 1, 0, 0, 0])))?;
     let started = served(house.step(&mut buffer))?;
     assert_eq!(rt; started.0, 3);
     assert_eq!(rt; started.1, 3);
     refused(&rt, house.second(&mut buffer), 8)?;
     for left in [2, 1, 0] {
-        let mut heard = [EMPTY; 18];
+        let mut heard = [Frame::default(); 18];
         let counts = served(house.step(&mut heard))?;
         assert_eq!(rt; counts.0, 0);
         assert_eq!(rt; counts.1, left);
     }
-    let mut told = [EMPTY; 18];
+    let mut told = [Frame::default(); 18];
     let ended = served(house.second(&mut told))?;
     assert_eq!(rt; ended.0, 3);
     assert_eq!(rt; ended.1, 3);
@@ -122,9 +123,9 @@ fn what_a_second_sends(rt: HostRuntime) -> Result<(), Fail> {
         [0, 0x10, 0, 4, 0x00, 0, 0x05, 0, 0, 0, 0, 0],
     ];
     for (got, body) in told.iter().zip(expected.iter()) {
-        assert_eq!(rt; *got, frame(*body));
+        assert_eq!(rt; *got, Frame::from(*body));
     }
-    assert_eq!(rt; told[3], EMPTY);
+    assert_eq!(rt; told[3], Frame::default());
     Ok(())
 }
 

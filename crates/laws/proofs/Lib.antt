@@ -1,4 +1,3 @@
-mod EveryModule
 mod Sending
 mod Pairs
 mod LampFrames

@@ -9,12 +9,13 @@ use Rattle.station.specs.Kinds.{Record}
 use Rattle.station.specs.Rules.{cell, payload, put, stored}
 use Rattle.module.specs.Designs.{Design, answered, designed}
 use Rattle.module.specs.Memories.{cell_frame, block_frame, in_memory, memory_sent}
+use Rattle.laws.specs.Kinds.{EveryModule}
 use Rattle.laws.specs.Blocks.{block}
 use Rattle.laws.specs.MemoryReads.{CellsRead, AnswersReads, ReadsBack}
-use Rattle.laws.proofs.EveryModule.{EveryModule}
 use Rattle.module.proofs.Answered.{at_own}
 use Rattle.laws.proofs.Blocks.{takes_block_writes}
-use Rattle.laws.proofs.Cells.{length-put, four, four-put, take_one, take_four}
+use Rattle.module.proofs.Puts.{length-put}
+use Rattle.laws.proofs.Cells.{four, four-put, take_one, take_four}
 use Rattle.laws.proofs.Commands.{MemoryOnly, ByMemory, memory_only, every_by_memory}
 
 -- a command that writes nothing stores nothing

@@ -23,8 +23,7 @@ use Rattle.panel.specs.Panels.{design as panel_design}
 use Rattle.relay.specs.declared.relay.RelaySetup.{RelaySetup}
 use Rattle.relay.specs.Relays.{design as relay_design}
 use Rattle.relay.specs.AllSent.{Forms, Lamps, all_command, all_status, all_second}
-use Rattle.laws.specs.Kinds.{relay_kind, panel_kind, buttons_kind}
-use Rattle.laws.proofs.EveryModule.{EveryModule}
+use Rattle.laws.specs.Kinds.{relay_kind, panel_kind, buttons_kind, EveryModule}
 use Rattle.laws.specs.Sending.{SendsOnly, WellFormed, NoWrite}
 use Rattle.module.proofs.Answered.{all_heard, all_pushed}
 

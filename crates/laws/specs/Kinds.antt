@@ -31,3 +31,9 @@ EveryPanel Law = (s : PanelSetup) → Law (panel_kind s)
 -- and of each button interface
 abbrev pub EveryButtons : (Kind → Type 0) → Type 0
 EveryButtons Law = (s : InterfaceSetup) → Law (buttons_kind s)
+
+-- so it holds of each module of the three kinds
+pub record EveryModule (Law : Kind → Type 0) : Type 0 where
+  pub relay : EveryRelay Law
+  pub panel : EveryPanel Law
+  pub buttons : EveryButtons Law

@@ -3,7 +3,7 @@
 
 ghost use Rattle.std.specs.List.{AllByRecursion};
 ghost use Rattle.laws.specs.Blocks.{TakesBlockWrites, BlockWritesKeepChannels};
-ghost use Rattle.laws.specs.Kinds.{EveryRelay, EveryPanel, EveryButtons};
+ghost use Rattle.laws.specs.Kinds.{EveryRelay, EveryModule};
 ghost use Rattle.laws.specs.LampFrames.{LampsOnlyToLinks, ElseFromOwnAddress};
 ghost use Rattle.laws.specs.MemoryReads.{AnswersReads, ReadsBack};
 ghost use Rattle.laws.specs.Pairs.{FirstPairFound, NoPairFound, FirstMatchObeyed, NoMatchKept};
@@ -13,12 +13,8 @@ ghost use Rattle.laws.specs.WorkedLines.{worked_lines, Holds};
 
 // All frames sent are well formed, and none is a write.
 pub fn sending_laws() -> u8
-    ensures relay_well_formed { EveryRelay (SendsOnly WellFormed) }
-    ensures panel_well_formed { EveryPanel (SendsOnly WellFormed) }
-    ensures relay_no_write { EveryRelay (SendsOnly NoWrite) }
-    ensures panel_no_write { EveryPanel (SendsOnly NoWrite) }
-    ensures buttons_well_formed { EveryButtons (SendsOnly WellFormed) }
-    ensures buttons_no_write { EveryButtons (SendsOnly NoWrite) }
+    ensures well_formed { EveryModule (SendsOnly WellFormed) }
+    ensures no_write { EveryModule (SendsOnly NoWrite) }
 {
     0
 }
@@ -51,9 +47,7 @@ pub fn time_laws() -> u8
 
 // What a block write does, and that it switches no channel.
 pub fn block_laws() -> u8
-    ensures relay_takes_block_writes { EveryRelay TakesBlockWrites }
-    ensures panel_takes_block_writes { EveryPanel TakesBlockWrites }
-    ensures buttons_takes_block_writes { EveryButtons TakesBlockWrites }
+    ensures takes_block_writes { EveryModule TakesBlockWrites }
     ensures block_writes_keep_channels { EveryRelay BlockWritesKeepChannels }
 {
     0
@@ -61,15 +55,9 @@ pub fn block_laws() -> u8
 
 // What reads are answered with.
 pub fn read_laws() -> u8
-    ensures relay_reads_one { EveryRelay (AnswersReads 0xFD 0xFE 1) }
-    ensures relay_reads_four { EveryRelay (AnswersReads 0xC9 0xCC 4) }
-    ensures relay_reads_back { EveryRelay ReadsBack }
-    ensures panel_reads_one { EveryPanel (AnswersReads 0xFD 0xFE 1) }
-    ensures panel_reads_four { EveryPanel (AnswersReads 0xC9 0xCC 4) }
-    ensures panel_reads_back { EveryPanel ReadsBack }
-    ensures buttons_reads_one { EveryButtons (AnswersReads 0xFD 0xFE 1) }
-    ensures buttons_reads_four { EveryButtons (AnswersReads 0xC9 0xCC 4) }
-    ensures buttons_reads_back { EveryButtons ReadsBack }
+    ensures reads_one { EveryModule (AnswersReads 0xFD 0xFE 1) }
+    ensures reads_four { EveryModule (AnswersReads 0xC9 0xCC 4) }
+    ensures reads_back { EveryModule ReadsBack }
 {
     0
 }

@@ -2,7 +2,8 @@
 use Rattle.std.proofs.Common.{◌≡◌, ℕ, suc, ◌+◌, ◌-◌, ◌≤◌, List, [], ◌∷◌, ◌++◌, length, take, drop, set, sym, refl, ap, ◌∙◌, arith, add-one}
 use Rattle.std.proofs.lemmas.List.{take_all}
 use Rattle.std.proofs.lemmas.List.Edits.{sets, sets-eq}
-use Rattle.std.proofs.lemmas.Slice.{put_mid-paste}
+use Rattle.std.proofs.lemmas.Slice.{put_mid-paste, between-put_mid}
+use Rattle.std.proofs.Math.Seq.{length-sets}
 use borrow.Rule.Slice.PartMut.{put_mid}
 use Rattle.station.specs.Rules.{put}
 
@@ -13,3 +14,14 @@ put-sets (b ∷ bs) cells at = put-sets bs (set cells at b) (at + 1) ∙ ap (λ 
 pub put_mid-put : (cells : List ℕ) (at n : ℕ) (part bs : List ℕ) → part ≡ bs → n ≡ length bs → at + length bs ≤ length cells → put_mid at n cells part ≡ put cells at bs
 put_mid-put cells at n part bs e f fits =
     put_mid-paste at n cells part bs (length bs) e (sym f) refl ∙ (ap (λ t. take at cells ++ t ++ drop (at + length bs) cells) (take_all (length bs) bs (omega arith)) ∙ (sym (sets-eq bs cells at fits) ∙ sym (put-sets bs cells at)))
+
+pub length-put : (cells : List ℕ) (at : ℕ) (bs : List ℕ) → length (put cells at bs) ≡ length cells
+length-put cells at bs = ap length (put-sets bs cells at) ∙ length-sets cells at bs
+
+-- where they were put in, they stand
+pub put_stands : (cells : List ℕ) (at : ℕ) (bs : List ℕ) → at + length bs ≤ length cells → take (length bs) (drop at (put cells at bs)) ≡ bs
+put_stands cells at bs fits =
+    let n = length bs in
+    let long : n ≡ at + n - at = omega arith in
+    ap (λ t. take n (drop at t)) (sym (put_mid-put cells at n bs bs refl refl fits))
+    ∙ (ap (λ k. take k (drop at (put_mid at n cells bs))) long ∙ between-put_mid at n cells bs (at + n) (omega arith) long)

@@ -1,20 +1,20 @@
 // What frames say of button interfaces.
 use crate::buttons::buttons;
 use crate::numbers::Numbers;
-use crate::times::{clock, seconds};
+use crate::times::clock;
 use bus::Frame;
 use std::fmt;
 
 // What a frame says of a button interface.
 pub(crate) fn interface<W: fmt::Write>(frame: &Frame, f: &mut fmt::Formatter<W>) -> fmt::Result {
-    let [command, bits, high, mid, low, _, _, _] = frame.bytes;
+    let [command, bits, _, _, locked, _, _, _] = frame.bytes;
     let named = Numbers(bits);
     match command {
-        0x12 => lock(named, seconds(high, mid, low), f),
+        0x12 => lock(named, frame.seconds(), f),
         0x13 => write!(f, "unlock channels {named}"),
         0xD7 | 0xD8 => clock(frame, f),
         0xED => {
-            let locked = Numbers(low);
+            let locked = Numbers(locked);
             write!(f, "buttons pressed {named}; channels locked {locked}")
         }
         0xFF => built(frame, f),

@@ -7,19 +7,14 @@ pub struct Numbers(pub u8);
 
 impl fmt::Display for Numbers {
     fn fmt<W: fmt::Write>(&self, f: &mut fmt::Formatter<W>) -> fmt::Result {
-        if self.0 == 0 {
+        let bits = self.0;
+        let mut numbers = (1..=8u8).filter(|number| (bits >> (*number - 1)) & 1 == 1);
+        let Some(first) = numbers.next() else {
             return f.write_str("none");
-        }
-        let mut first = true;
-        for bit in 0..8u8 {
-            if (self.0 >> bit) & 1 == 1 {
-                if !first {
-                    f.write_str(" ")?;
-                }
-                let number = bit + 1;
-                write!(f, "{number}")?;
-                first = false;
-            }
+        };
+        write!(f, "{first}")?;
+        for number in numbers {
+            write!(f, " {number}")?;
         }
         Ok(())
     }

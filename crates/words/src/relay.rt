@@ -1,6 +1,5 @@
 // What frames say of relays.
 use crate::numbers::Numbers;
-use crate::times::seconds;
 use bus::Frame;
 use std::fmt;
 
@@ -16,7 +15,7 @@ pub(crate) fn relay<W: fmt::Write>(frame: &Frame, f: &mut fmt::Formatter<W>) -> 
         0xFA => write!(f, "tell the status of channels {channels}"),
         0xFB => {
             write!(f, "channel {channels} is ")?;
-            let time = seconds(high, mid, low);
+            let time = u32::from_be_bytes([0, high, mid, low]);
             match state {
                 0 => f.write_str("open"),
                 1 => f.write_str("closed"),

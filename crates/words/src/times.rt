@@ -1,15 +1,6 @@
 // Times in frames.
-ghost use Rattle.std.specs.Prelude.{◌≡◌, ◌+◌, ◌*◌};
-
 use bus::Frame;
 use std::fmt;
-
-// The seconds in three bytes, high byte first.
-pub(crate) fn seconds(high: u8, mid: u8, low: u8) -> u32
-    ensures { result ≡ high * 65536 + mid * 256 + low }
-{
-    u32::from(high) * 65536 + u32::from(mid) * 256 + u32::from(low)
-}
 
 // A minute of the week; day 0 is Monday.
 #[derive(Clone, Copy)]

@@ -2,10 +2,4 @@ use Rattle.laws.proofs.Blocks.{every_takes_block_writes, block_writes_keep_chann
 use Rattle.laws.proofs.block_laws.Goals as goal
 
 pub returns : goal.returns
-returns c =
-    record {
-      relay_takes_block_writes = every_takes_block_writes.relay;
-      panel_takes_block_writes = every_takes_block_writes.panel;
-      buttons_takes_block_writes = every_takes_block_writes.buttons;
-      block_writes_keep_channels = block_writes_keep_channels;
-    }
+returns c = record { takes_block_writes = every_takes_block_writes; block_writes_keep_channels = block_writes_keep_channels }
