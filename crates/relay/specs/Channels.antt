@@ -1,4 +1,4 @@
--- What is done to each of the four channels alike. Assumes nothing.
+-- What is done to each of the four channels alike, and what holds of each. Assumes nothing.
 use Rattle.std.specs.Prelude.{ℕ}
 use Rattle.relay.specs.declared.per_channel.PerChannel.{PerChannel}
 
@@ -14,3 +14,17 @@ paired f x y =
 -- the same of each channel's number, counted from 0
 abbrev pub numbered : {A : Type 0} → (ℕ → A) → PerChannel A
 numbered f = record { one = f 0; two = f 1; three = f 2; four = f 3 }
+
+-- P holds of each channel's value
+pub record Each {A : Type 0} (P : A → Type 0) (x : PerChannel A) : Type 0 where
+  pub one : P x.one
+  pub two : P x.two
+  pub three : P x.three
+  pub four : P x.four
+
+-- R holds of each channel's two values
+pub record Paired {A B : Type 0} (R : A → B → Type 0) (x : PerChannel A) (y : PerChannel B) : Type 0 where
+  pub one : R x.one y.one
+  pub two : R x.two y.two
+  pub three : R x.three y.three
+  pub four : R x.four y.four

@@ -1,7 +1,7 @@
 -- How the relay is designed, and what a relay remembers. Assumes nothing.
 use Rattle.std.specs.Prelude.{ℕ, ◌+◌, ◌*◌, Bool, cond, List, [], ◌∷◌, ◌++◌, Some, None, Option, ◌==◌, slice_index}
 use Rattle.bus.specs.declared.frame.Frame.{Frame}
-use Rattle.bus.specs.Frames.{byte, is_command}
+use Rattle.bus.specs.Frames.{byte, is_command, seconds_in}
 use Rattle.station.specs.Kinds.{Record, Outcome}
 use Rattle.station.specs.Rules.{stored}
 use Rattle.module.specs.Bits.{has_bit}
@@ -42,7 +42,7 @@ start_action t = cond (t == 0) None (cond (t == 0xFFFFFF) (Some Set) (Some (Star
 abbrev pub commanded : Frame → Option Action
 commanded f =
     cond (is_command 0x01 2 f) (Some Clear)
-    (cond (is_command 0x02 2 f) (Some Set) (cond (is_command 0x03 5 f) (start_action (byte f 2 * 65536 + byte f 3 * 256 + byte f 4)) None))
+    (cond (is_command 0x02 2 f) (Some Set) (cond (is_command 0x03 5 f) (start_action (seconds_in f)) None))
 
 -- an action, if there is one, carried out where it is named
 abbrev pub carried : Option Action → Bool → Contact → Contact

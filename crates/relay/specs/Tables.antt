@@ -1,5 +1,6 @@
 -- The pairs of the relay's memory: whom they link, and which one a channel obeys. Assumes nothing.
-use Rattle.std.specs.Prelude.{ℕ, ◌+◌, ◌*◌, ◌/◌, Bool, true, cond, not, ◌&&◌, ◌||◌, List, is_some, Some, None, Option, ◌==◌, bit_and, slice_index}
+use Rattle.std.specs.Prelude.{ℕ, ◌+◌, ◌*◌, ◌/◌, Bool, true, cond, not, ◌&&◌, ◌||◌, List, is_some, Some, None, Option, ◌==◌, slice_index}
+use Rattle.module.specs.Bits.{has_bit}
 use Rattle.module.specs.Searches.{first}
 use Rattle.relay.specs.declared.action.Action.{Action}
 use Rattle.relay.specs.declared.action.Action.TheVariants.{Clear, Set, Toggle, ToggleTimer, Start}
@@ -17,7 +18,7 @@ table p = p / 15
 -- the buttons asked for, if any are, have one in common with a pair's bits
 abbrev pub in_common : Option ℕ → ℕ → Bool
 in_common None bits = true
-in_common (Some asked) bits = not (bit_and bits asked == 0)
+in_common (Some asked) bits = has_bit bits asked
 
 -- pair p of channel c fits the query; those of table 3, the mode table, fit none
 abbrev pub matches : List ℕ → ℕ → Query → ℕ → Bool

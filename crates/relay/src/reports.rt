@@ -1,11 +1,11 @@
 // What the relay tells of its channels.
 ghost use Rattle.std.specs.Prelude.{◌≡◌, ◌≤◌};
 ghost use Rattle.bus.specs.Outboxes.{Room, Sends};
-ghost use Rattle.relay.specs.Reports.{made, told, statuses, changes, rise, risen, switched, report, lamp, lamps};
+ghost use Rattle.relay.specs.Reports.{made, told, statuses, differ, changes, rise, risen, switched, report, lamp, lamps};
 ghost use Rattle.relay.specs.Shown.{shown, all_shown};
 
 use crate::channel::Channel;
-use crate::per_channel::PerChannel;
+use crate::per_channel::{BITS, PerChannel};
 use bus::{Frame, Outbox};
 
 impl Channel {
@@ -26,12 +26,7 @@ impl PerChannel<Channel> {
     pub(crate) fn made(&self) -> PerChannel<bool>
         ensures { result ≡ made (all_shown self.now) }
     {
-        PerChannel {
-            one: self.one.is_closed(),
-            two: self.two.is_closed(),
-            three: self.three.is_closed(),
-            four: self.four.is_closed(),
-        }
+        self.map(|channel| channel.is_closed())
     }
 
     // Sends the status of each wanted channel.
@@ -56,16 +51,18 @@ impl PerChannel<Channel> {
     }
 }
 
+// Whether a contact changed.
+fn differ(was: bool, is: bool) -> bool
+    ensures { result ≡ differ was is }
+{
+    was != is
+}
+
 // Where contacts changed.
 fn changes(was: PerChannel<bool>, is: PerChannel<bool>) -> PerChannel<bool>
     ensures { result ≡ changes was is }
 {
-    PerChannel {
-        one: was.one != is.one,
-        two: was.two != is.two,
-        three: was.three != is.three,
-        four: was.four != is.four,
-    }
+    was.zip(is).map(|(was, is)| differ(was, is))
 }
 
 // The bit where the second is and the first is not.
@@ -80,8 +77,10 @@ fn rise(bit: u8, was: bool, is: bool) -> u8
 fn risen(was: PerChannel<bool>, is: PerChannel<bool>) -> u8
     ensures { result ≡ risen was is }
 {
-    rise(1, was.one, is.one)
-        + (rise(2, was.two, is.two) + (rise(4, was.three, is.three) + rise(8, was.four, is.four)))
+    let rises = BITS
+        .zip(was.zip(is))
+        .map(|(bit, (was, is))| rise(bit, was, is));
+    rises.one + rises.two + rises.three + rises.four
 }
 
 // Sends which contacts were made and which were broken, if any were.
@@ -101,11 +100,11 @@ fn send_lamp(address: u8, was: bool, is: bool, bits: Option<u8>, out: &mut Outbo
     requires { Room out.old 1 }
     ensures { Sends out.old out.new (lamp address was is bits) }
 {
-    if let Some(bits) = bits {
-        if was != is {
-            let command = if is { 0xF6 } else { 0xF5 };
-            out.send(Frame::new(3, address, 2, [command, bits, 0, 0, 0, 0, 0, 0]));
-        }
+    if let Some(bits) = bits
+        && differ(was, is)
+    {
+        let command = if is { 0xF6 } else { 0xF5 };
+        out.send(Frame::new(3, address, 2, [command, bits, 0, 0, 0, 0, 0, 0]));
     }
 }
 

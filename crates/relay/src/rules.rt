@@ -9,7 +9,7 @@ ghost use Rattle.std.proofs.Common.{rules};
 
 use crate::action::Action;
 use crate::channel::Channel;
-use crate::per_channel::PerChannel;
+use crate::per_channel::{BITS, PerChannel};
 use crate::query::Query;
 use crate::relay::{CELLS, Relay, RelaySetup};
 use crate::reports::send_lamps;
@@ -24,12 +24,7 @@ fn named_channels(frame: &Frame) -> PerChannel<bool>
     ensures { result ≡ named_channels frame.now }
 {
     let bits = frame.bytes[1];
-    PerChannel {
-        one: bits & 1 != 0,
-        two: bits & 2 != 0,
-        three: bits & 4 != 0,
-        four: bits & 8 != 0,
-    }
+    BITS.map(|bit| bits & bit != 0)
 }
 
 // What a time to start for asks: 0 nothing, 0xFFFFFF to close for good.
@@ -52,32 +47,33 @@ fn commanded(frame: &Frame) -> Option<Action>
     } else if frame.is_command(0x02, 2) {
         Some(Action::Set)
     } else if frame.is_command(0x03, 5) {
-        let [_, _, high, mid, low, _, _, _] = frame.bytes;
-        start_action(u32::from(high) * 65536 + u32::from(mid) * 256 + u32::from(low))
+        start_action(frame.seconds())
     } else {
         None
     }
 }
 
 impl Channel {
-    // Carries out an action, if there is one and it is wanted here.
-    fn carry(&mut self, action: Option<Action>, wanted: bool)
-        ensures { shown self.new ≡ carried action wanted (shown self.old) }
+    // The channel after an action, if there is one and it is wanted here.
+    fn carried(mut self, action: Option<Action>, wanted: bool) -> Self
+        ensures { shown result ≡ carried action wanted (shown self) }
     {
-        if let Some(action) = action {
-            if wanted {
-                self.obey(action);
-            }
+        if let Some(action) = action
+            && wanted
+        {
+            self.obey(action);
         }
+        self
     }
 
-    // Obeys a pair of the channel with those timers.
-    fn obey_pair(&mut self, timers: Timers, pair: Option<u8>)
-        ensures { shown self.new ≡ by_pair timers pair (shown self.old) }
+    // The channel after a pair of it, if there is one, with those timers.
+    fn by_pair(mut self, timers: Timers, pair: Option<u8>) -> Self
+        ensures { shown result ≡ by_pair timers pair (shown self) }
     {
         if let Some(p) = pair {
             self.obey(timers.action(p));
         }
+        self
     }
 }
 
@@ -86,10 +82,9 @@ impl PerChannel<Channel> {
     fn carry_out(&mut self, action: Option<Action>, named: PerChannel<bool>)
         ensures { all_shown self.new ≡ carried_out action named (all_shown self.old) }
     {
-        self.one.carry(action, named.one);
-        self.two.carry(action, named.two);
-        self.three.carry(action, named.three);
-        self.four.carry(action, named.four);
+        *self = self
+            .zip(named)
+            .map(|(channel, wanted)| channel.carried(action, wanted));
     }
 
     // Answers a status request, or tells what a command changed.
@@ -108,10 +103,9 @@ impl PerChannel<Channel> {
     fn obey_pairs(&mut self, timers: PerChannel<Timers>, pairs: PerChannel<Option<u8>>)
         ensures { all_shown self.new ≡ by_pairs timers pairs (all_shown self.old) }
     {
-        self.one.obey_pair(timers.one, pairs.one);
-        self.two.obey_pair(timers.two, pairs.two);
-        self.three.obey_pair(timers.three, pairs.three);
-        self.four.obey_pair(timers.four, pairs.four);
+        *self = self
+            .zip(timers.zip(pairs))
+            .map(|(channel, (timers, pair))| channel.by_pair(timers, pair));
     }
 
     // The state bytes of the record.
@@ -131,10 +125,10 @@ impl PerChannel<Channel> {
     fn tick(&mut self)
         ensures { all_shown self.new ≡ all_ticked (all_shown self.old) }
     {
-        self.one.tick();
-        self.two.tick();
-        self.three.tick();
-        self.four.tick();
+        *self = self.map(|mut channel| {
+            channel.tick();
+            channel
+        });
     }
 }
 
@@ -147,34 +141,23 @@ impl Relay {
             address: frame.address,
             buttons: Some(frame.bytes[1]),
         };
-        PerChannel {
-            one: self.first_pair(0, query),
-            two: self.first_pair(1, query),
-            three: self.first_pair(2, query),
-            four: self.first_pair(3, query),
-        }
+        PerChannel::from_fn(|c| self.first_pair(c, query))
     }
 
     // The button bits of a pair of channel c.
     fn bits(&self, c: u8, pair: Option<u8>) -> Option<u8>
         ensures { result ≡ pair_bits (memory_cells self.now.memory) c pair }
     {
-        match pair {
-            None => None,
-            Some(p) => Some(self.memory.read(pair_cell(c, p) + 1)),
-        }
+        pair.map(|p| self.memory.read(pair_cell(c, p) + 1))
     }
 
     // The button bits of each channel's pair.
     fn all_bits(&self, pairs: PerChannel<Option<u8>>) -> PerChannel<Option<u8>>
         ensures { result ≡ all_bits (memory_cells self.now.memory) pairs }
     {
-        PerChannel {
-            one: self.bits(0, pairs.one),
-            two: self.bits(1, pairs.two),
-            three: self.bits(2, pairs.three),
-            four: self.bits(3, pairs.four),
-        }
+        PerChannel::from_fn(|c| c)
+            .zip(pairs)
+            .map(|(c, pair)| self.bits(c, pair))
     }
 }
 
@@ -252,12 +235,7 @@ impl ModuleKind for Relay {
         Relay {
             setup,
             memory: Memory::new(),
-            channels: PerChannel {
-                one: Channel::Open,
-                two: Channel::Open,
-                three: Channel::Open,
-                four: Channel::Open,
-            },
+            channels: PerChannel::from_fn(|_| Channel::Open),
         }
     }
 }

@@ -10,7 +10,7 @@ use crate::seconds::Seconds;
 impl Seconds {
     // That time, or the nearer end of the range.
     pub fn new(time: u32) -> Self
-        ensures { result.value ≡ in_range time }
+        ensures { result ≡ in_range time }
     {
         Seconds {
             value: time.clamp(1, 0xFFFFFE),
@@ -19,10 +19,10 @@ impl Seconds {
 
     // The time in three bytes, high byte first.
     fn bytes(self) -> [u8; 3]
-        ensures { result ≡ self.value / 65536 ∷ self.value / 256 % 256 ∷ self.value % 256 ∷ [] }
+        ensures { result ≡ self / 65536 ∷ self / 256 % 256 ∷ self % 256 ∷ [] }
     {
-        let n = self.value;
-        [(n / 65536) as u8, (n / 256 % 256) as u8, (n % 256) as u8]
+        let [_, high, mid, low] = self.value.to_be_bytes();
+        [high, mid, low]
     }
 }
 
@@ -40,11 +40,11 @@ impl Channel {
     pub fn obey(&mut self, action: Action)
         ensures { shown self.new ≡ obeyed action (shown self.old) }
     {
-        *self = match (&*self, &action) {
+        *self = match (*self, action) {
             (_, Action::Clear) => Channel::Open,
             (_, Action::Set) | (Channel::Open, Action::Toggle) => Channel::Closed,
             (_, Action::Start(t)) | (Channel::Open, Action::ToggleTimer(t)) => Channel::Running(
-                Seconds::new(*t),
+                Seconds::new(t),
             ),
             (_, Action::Toggle | Action::ToggleTimer(_)) => Channel::Open,
         };

@@ -20,10 +20,7 @@ pub(crate) fn pair_cell(c: u8, p: u8) -> usize
 fn has_common(asked: Option<u8>, bits: u8) -> bool
     ensures { result ≡ in_common asked bits }
 {
-    match asked {
-        None => true,
-        Some(asked) => bits & asked != 0,
-    }
+    asked.is_none_or(|asked| bits & asked != 0)
 }
 
 impl Relay {
@@ -41,12 +38,7 @@ impl Relay {
     pub(crate) fn first_pair(&self, c: u8, query: Query) -> Option<u8>
         ensures { result ≡ first_pair (memory_cells self.now.memory) c query }
     {
-        for p in 0..120 {
-            if self.matches(c, query, p) {
-                return Some(p);
-            }
-        }
-        None
+        (0..120).find(|p| self.matches(c, query, *p))
     }
 
     // Whether a pair of channel c bears the address.
@@ -64,10 +56,7 @@ impl Relay {
     pub(crate) fn names_address(&self, address: u8) -> bool
         ensures { result ≡ named (memory_cells self.now.memory) address }
     {
-        self.names_in(0, address)
-            || self.names_in(1, address)
-            || self.names_in(2, address)
-            || self.names_in(3, address)
+        (0..4).any(|c| self.names_in(c, address))
     }
 }
 
