@@ -1,5 +1,5 @@
 -- What follows of sendings, one after the other. Assumes nothing.
-use Rattle.std.proofs.Common.{◌≡◌, ℕ, ◌+◌, ◌≤◌, List, [], ◌++◌, length, sym, refl, ap, ◌∙◌, arith, length-append}
+use Rattle.std.proofs.Common.{◌≡◌, ℕ, ◌+◌, ◌≤◌, List, [], ◌++◌, length, sym, refl, ap, subst, ◌∙◌, arith, length-append}
 use Rattle.std.proofs.lemmas.List.{append_assoc, append-nil}
 use Rattle.bus.specs.declared.frame.Frame.{Frame}
 use Rattle.bus.specs.declared.outbox.Outbox.{Outbox}
@@ -12,6 +12,10 @@ sends_both {a} {b} {c} {fs} {gs} p q =
       appended = q.appended ∙ (ap (λ t. t ++ gs) p.appended ∙ append_assoc (frames a) fs gs);
       same_room = q.same_room ∙ p.same_room;
     }
+
+-- a sending of some frames is one of the same frames
+pub sends_same : {a b : Outbox} {fs gs : List Frame} → Sends a b fs → fs ≡ gs → Sends a b gs
+sends_same {a} {b} s e = subst (Sends a b) e s
 
 -- no sending at all
 pub sends_none : (o : Outbox) (fs : List Frame) → fs ≡ [] → Sends o o fs

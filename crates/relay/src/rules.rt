@@ -161,6 +161,7 @@ impl Relay {
     }
 }
 
+#[tactic(auto, using(crate::proofs::Decoded::decoded_content))]
 impl Module for Relay {
     ghost design = { λ p. design p.setup };
 
