@@ -24,6 +24,7 @@ use Rattle.relay.specs.Contacts.{Contact}
 use Rattle.relay.specs.Relays.{contacts, commanded, named_channels, carried_out, answer}
 use Rattle.relay.specs.Relays.{design as relay_design}
 use Rattle.relay.specs.Reports.{made, told, statuses, differ, changes, rise, risen, switched, report}
+use Rattle.laws.specs.Kinds.{EveryModule}
 
 -- a frame that asks for no status, no type and no time, and names no channel
 pub record MemoryOnly (f : Frame) : Type 0 where
