@@ -1,7 +1,7 @@
 // Shows how a button of a panel locks a channel of a button interface, which is free again when the time is over.
 #![tactic(auto)]
 
-use anyhow::anyhow;
+use anyhow::Context;
 use bus::Frame;
 use buttons::ButtonInterface;
 use house::House;
@@ -9,7 +9,8 @@ use interface::{InterfaceSetup, Serial};
 use module::{Module, ModuleKind, Seat};
 use panel::{Panel, PanelSetup};
 use station::Rail;
-use trace::{Named, Trace};
+use std::collections::BTreeMap;
+use trace::Trace;
 use words::ModuleType;
 
 const PANEL: u8 = 0x30;
@@ -37,16 +38,9 @@ fn modules() -> Modules {
 }
 
 // Which kind of module stands where.
-fn named(rt: &HostRuntime) -> anyhow::Result<Vec<Named>> {
-    let panel = Named {
-        address: PANEL,
-        module: ModuleType::Panel,
-    };
-    let interface = Named {
-        address: INTERFACE,
-        module: ModuleType::Buttons,
-    };
-    Ok(vec![in rt.alloc(); panel, interface]?)
+fn named(rt: &HostRuntime) -> anyhow::Result<BTreeMap<u8, ModuleType>> {
+    let kinds = [(PANEL, ModuleType::Panel), (INTERFACE, ModuleType::Buttons)];
+    Ok(BTreeMap::from_array(rt.alloc(), kinds)?)
 }
 
 fn main(rt: HostRuntime) -> anyhow::Result<()> {
@@ -54,9 +48,7 @@ fn main(rt: HostRuntime) -> anyhow::Result<()> {
 }
 
 fn run(rt: &HostRuntime) -> anyhow::Result<()> {
-    let Ok(house) = House::new(rt.alloc(), modules()) else {
-        return Err(anyhow!("there is no memory for the house"));
-    };
+    let house = House::new(rt.alloc(), modules()).context("there is no memory for the house")?;
     let mut trace = Trace::new(rt.alloc(), house, named(rt)?);
     println!(rt; "A panel at 30 and a button interface at 20 stand on one bus.")?;
     link(rt, &mut trace)?;

@@ -1,3 +1,2 @@
 pub mod Builders
 pub mod Checking
-pub mod Appending

@@ -1,5 +1,7 @@
 -- What the builder of a house can get wrong, looking at every seat. Assumes nothing.
-use Rattle.std.specs.Prelude.{Bool, false, cond, ◌||◌, List, [], ◌∷◌, length, Some, None, Option, ◌==◌, nat_lt}
+use Rattle.std.specs.Prelude.{◌≡◌, Bool, false, ◌||◌, List, [], ◌∷◌, length, Some, None, Option, Result, MatchResult, ◌==◌, nat_lt}
+use Rattle.std.specs.Option.{option_map}
+use Rattle.std.specs.List.{list_any, find}
 use Rattle.bus.specs.declared.refusal.Refusal.{Refusal}
 use Rattle.bus.specs.declared.refusal.Refusal.TheVariants.{SeatAddress, AddressTwice, TooManySeats}
 use Rattle.station.specs.declared.addresses.Addresses.{Addresses}
@@ -12,13 +14,15 @@ Checks = List (Bool × Refusal)
 
 -- the first that applies
 abbrev pub first : Checks → Option Refusal
-first [] = None
-first (c ∷ cs) = cond c.0 (Some c.1) (first cs)
+first cs = option_map (λ c. c.1) (find (λ c. c.0) cs)
+
+-- r is the value, unless something refuses it: then r is that refusal
+abbrev pub OkUnless : {A : Type 0} → Result A Refusal → Option Refusal → A → Type 0
+OkUnless r o x = MatchResult r (λ y. (o ≡ None) × (y ≡ x)) (λ e. o ≡ Some e)
 
 -- some seat's address is 0 or 255
 abbrev pub bad_address : List Seat → Bool
-bad_address [] = false
-bad_address (s ∷ ss) = (s.address == 0 || s.address == 255) || bad_address ss
+bad_address ss = list_any (λ s. s.address == 0 || s.address == 255) ss
 
 -- some address is borne by two seats
 abbrev pub address_twice : List Seat → Bool

@@ -1,18 +1,35 @@
 -- What the calls make of a house. Assumes nothing.
-use Rattle.std.specs.Prelude.{List}
+use Rattle.std.specs.Prelude.{◌≡◌, List, Option}
 use Rattle.std.specs.VecDeque.{deque_items}
 use Rattle.bus.specs.declared.frame.Frame.{Frame}
+use Rattle.bus.specs.declared.refusal.Refusal.{Refusal}
 use Rattle.station.specs.Kinds.{Seat}
 use Rattle.station.specs.declared.station.Station.{Ghosts}
 use Rattle.house.specs.declared.house.House.{House}
-use Rattle.house.specs.Calls.{Call}
-use Rattle.house.specs.Turns.{Turn, turn}
+use Rattle.house.specs.Calls.{Call, Answer}
+use Rattle.house.specs.Faults.{first}
+use Rattle.house.specs.Turns.{checks, Turn, turn, written}
 
 module _ {S : Type 0} {G : Ghosts S} where
+  -- the station
+  abbrev pub station_of : House S G → S
+  station_of h = h.built.station
+
   -- the pending frames, oldest first
   abbrev pub pending_of : House S G → List Frame
   pending_of h = deque_items h.pending
 
   -- what comes of a call, over the seats of the house's station
   abbrev pub turn_of : (S → List Seat) → House S G → Call → Turn
-  turn_of seats h c = turn (seats h.station) (pending_of h) c
+  turn_of seats h c = turn (seats (station_of h)) (pending_of h) c
+
+  -- what refuses a call, if anything does
+  abbrev pub refusal_of : (S → List Seat) → House S G → Call → Option Refusal
+  refusal_of seats h c = first (checks (seats (station_of h)) (pending_of h) c)
+
+  -- a turn was taken: this is the answer and this the house after it, and the frames sent were written to the buffer
+  pub record TakesTurn (seats_of : S → List Seat) (t : Turn) (r : Answer) (after : House S G) (old new : List Frame) : Type 0 where
+    pub answer : r ≡ t.answer
+    pub seats : seats_of (station_of after) ≡ t.seats
+    pub pending : pending_of after ≡ t.pending
+    pub buffer : new ≡ written t.sent old

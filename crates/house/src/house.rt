@@ -7,6 +7,7 @@ mod act;
 mod calls;
 mod refusals;
 
+use crate::built::Built;
 use bus::{Frame, Outbox};
 pub use refusals::smallest_refusal_first;
 use station::Station;
@@ -16,7 +17,7 @@ use std::collections::VecDeque;
 // frames have 256 places, and the outbox has nine for each of 16 seats.
 #[derive(Drop)]
 pub struct House<S: Station> {
-    station: S,
+    built: Built<S>,
     pending: VecDeque<Frame>,
     outbox: Outbox,
     ghost few: { deque_len pending ≤ 256 },

@@ -1,8 +1,7 @@
 // A house: one station, the frames that are pending on its bus, and the calls by which a bench works with it.
 #![tactic(auto)]
 
-mod builder;
-mod edge;
+mod built;
 mod house;
 
 pub use house::{House, smallest_refusal_first};

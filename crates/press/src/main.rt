@@ -3,15 +3,16 @@
 
 mod told;
 
-use anyhow::anyhow;
+use anyhow::Context;
 use bus::Frame;
 use house::House;
 use module::{Module, ModuleKind, Seat};
 use panel::{Panel, PanelSetup};
 use relay::{PerChannel, Relay, RelaySetup, Timers};
 use station::{Rail, Sieve};
+use std::collections::BTreeMap;
 use told::Told;
-use trace::{Named, Trace};
+use trace::Trace;
 use words::{ModuleType, Numbers};
 
 const PANEL: u8 = 0x20;
@@ -44,16 +45,9 @@ fn modules() -> Modules {
 }
 
 // Which kind of module stands where.
-fn named(rt: &HostRuntime) -> anyhow::Result<Vec<Named>> {
-    let panel = Named {
-        address: PANEL,
-        module: ModuleType::Panel,
-    };
-    let relay = Named {
-        address: RELAY,
-        module: ModuleType::Relay,
-    };
-    Ok(vec![in rt.alloc(); panel, relay]?)
+fn named(rt: &HostRuntime) -> anyhow::Result<BTreeMap<u8, ModuleType>> {
+    let kinds = [(PANEL, ModuleType::Panel), (RELAY, ModuleType::Relay)];
+    Ok(BTreeMap::from_array(rt.alloc(), kinds)?)
 }
 
 fn main(rt: HostRuntime) -> anyhow::Result<()> {
@@ -61,9 +55,7 @@ fn main(rt: HostRuntime) -> anyhow::Result<()> {
 }
 
 fn run(rt: &HostRuntime) -> anyhow::Result<()> {
-    let Ok(house) = House::new(rt.alloc(), modules()) else {
-        return Err(anyhow!("there is no memory for the house"));
-    };
+    let house = House::new(rt.alloc(), modules()).context("there is no memory for the house")?;
     let mut trace = Trace::new(rt.alloc(), house, named(rt)?);
     println!(rt; "A panel at 20 and a relay at 10 stand on one bus.")?;
     println!(rt; "Button 1 of the panel goes into the toggle table of channel 1.")?;

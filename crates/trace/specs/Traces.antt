@@ -5,7 +5,7 @@ use Rattle.station.specs.Kinds.{Seat}
 use Rattle.station.specs.declared.station.Station.{Ghosts}
 use Rattle.house.specs.declared.house.House.{House}
 use Rattle.house.specs.Calls.{Call, second, step}
-use Rattle.house.specs.Houses.{pending_of}
+use Rattle.house.specs.Houses.{station_of, pending_of}
 use Rattle.house.specs.Turns.{turn}
 
 -- the seats and the pending frames of a house
@@ -14,7 +14,7 @@ pub record Bus : Type 0 where
   pub pending : List Frame
 
 abbrev pub bus_of : {S : Type 0} {G : Ghosts S} → (S → List Seat) → House S G → Bus
-bus_of seats h = record { seats = seats h.station; pending = pending_of h }
+bus_of seats h = record { seats = seats (station_of h); pending = pending_of h }
 
 -- after a call
 abbrev pub called : Call → Bus → Bus

@@ -2,35 +2,28 @@
 // changes nothing about what the call did.
 ghost use Rattle.std.specs.Prelude.{◌≡◌, ◌⊎◌, [], length, OnOk};
 ghost use Rattle.house.specs.Calls.{put, push, second, step};
-ghost use Rattle.house.specs.Houses.{pending_of, turn_of};
+ghost use Rattle.house.specs.Houses.{pending_of};
 ghost use Rattle.trace.specs.Traces.{bus_of, called, steps, Stepped, Passed, PassedAtMost};
 
-use crate::named::{Named, module_at};
 use bus::{Frame, Refusal};
 use house::House;
 use station::Station;
 use std::alloc::Global;
-use words::{Hex, InWords};
+use std::collections::BTreeMap;
+use words::{Hex, InWords, ModuleType};
 
-// The kinds of the modules, the frames in the order in which they came onto the bus, and how many of them passed.
+// The kinds of the modules by address, the frames in the order in which they came onto the bus, and how many of them
+// passed.
 #[derive(Drop)]
 pub struct Trace<S: Station + Drop> {
     house: House<S>,
-    modules: Vec<Named>,
+    modules: BTreeMap<u8, ModuleType>,
     frames: Vec<Frame>,
     passed: usize,
 }
 
 // Room for what 16 seats send; no house has more.
 const PLACES: usize = 144;
-
-const EMPTY: Frame = Frame {
-    priority: 0,
-    address: 0,
-    rtr: 0,
-    count: 0,
-    bytes: [0; 8],
-};
 
 // Tells that a call was refused.
 fn refused(rt: &HostRuntime, refusal: Refusal) -> anyhow::Result<()> {
@@ -40,7 +33,7 @@ fn refused(rt: &HostRuntime, refusal: Refusal) -> anyhow::Result<()> {
 }
 
 impl<S: Station + Drop> Trace<S> {
-    pub fn new(heap: Global, house: House<S>, modules: Vec<Named>) -> Self
+    pub fn new(heap: Global, house: House<S>, modules: BTreeMap<u8, ModuleType>) -> Self
         ensures house { result.house ≡ house }
         ensures frames { result.frames.items ≡ [] }
         ensures passed { result.passed ≡ 0 }
@@ -62,8 +55,7 @@ impl<S: Station + Drop> Trace<S> {
 
     // Puts a frame.
     pub fn put(&mut self, rt: &HostRuntime, frame: Frame) -> anyhow::Result<()>
-        ensures seats { S.seats self.new.house.station ≡ (turn_of S.seats self.old.house (put frame)).seats }
-        ensures pending { pending_of self.new.house ≡ (turn_of S.seats self.old.house (put frame)).pending }
+        ensures { bus_of S.seats self.new.house ≡ called (put frame) (bus_of S.seats self.old.house) }
     {
         let answer = self.house.put(frame);
         self.tell_put(rt, frame, answer)
@@ -97,10 +89,9 @@ impl<S: Station + Drop> Trace<S> {
         channel: u8,
         edge: u8,
     ) -> anyhow::Result<()>
-        ensures seats { S.seats self.new.house.station ≡ (turn_of S.seats self.old.house (push address channel edge 144)).seats }
-        ensures pending { pending_of self.new.house ≡ (turn_of S.seats self.old.house (push address channel edge 144)).pending }
+        ensures { bus_of S.seats self.new.house ≡ called (push address channel edge 144) (bus_of S.seats self.old.house) }
     {
-        let mut buffer = [EMPTY; PLACES];
+        let mut buffer = [Frame::default(); PLACES];
         let answer = self.house.push(address, channel, edge, &mut buffer);
         let name = match edge {
             0 => "press",
@@ -113,10 +104,9 @@ impl<S: Station + Drop> Trace<S> {
 
     // Lets a second pass.
     pub fn second(&mut self, rt: &HostRuntime) -> anyhow::Result<()>
-        ensures seats { S.seats self.new.house.station ≡ (turn_of S.seats self.old.house (second 144)).seats }
-        ensures pending { pending_of self.new.house ≡ (turn_of S.seats self.old.house (second 144)).pending }
+        ensures { bus_of S.seats self.new.house ≡ called (second 144) (bus_of S.seats self.old.house) }
     {
-        let mut buffer = [EMPTY; PLACES];
+        let mut buffer = [Frame::default(); PLACES];
         let answer = self.house.second(&mut buffer);
         println!(rt; "second")?;
         self.tell(rt, &buffer, answer)
@@ -149,17 +139,14 @@ impl<S: Station + Drop> Trace<S> {
     fn nth_second(&mut self, rt: &HostRuntime, n: u32, seconds: u32) -> anyhow::Result<usize>
         ensures { bus_of S.seats self.new.house ≡ called (second 144) (bus_of S.seats self.old.house) }
     {
-        let mut buffer = [EMPTY; PLACES];
+        let mut buffer = [Frame::default(); PLACES];
         let outcome = self.house.second(&mut buffer);
-        if let Ok((0, _)) = outcome {
-            return Ok(0);
+        let sent = outcome.map_or(0, |(sent, _)| sent);
+        if outcome.is_err() || sent > 0 {
+            println!(rt; "second {n} of {seconds}")?;
+            self.tell(rt, &buffer, outcome)?;
         }
-        println!(rt; "second {n} of {seconds}")?;
-        self.tell(rt, &buffer, outcome)?;
-        match outcome {
-            Ok((sent, _)) => Ok(sent),
-            Err(_) => Ok(0),
-        }
+        Ok(sent)
     }
 
     // Steps until no frame is pending, 256 times at most.
@@ -167,7 +154,7 @@ impl<S: Station + Drop> Trace<S> {
         ensures led { Stepped (bus_of S.seats self.old.house) (bus_of S.seats self.new.house) }
         ensures quiet { OnOk result ((length (pending_of self.new.house) ≡ 0) ⊎ (bus_of S.seats self.new.house ≡ steps 256 (bus_of S.seats self.old.house))) }
     {
-        for n in 0..256u16 {
+        for _ in 0..256u16 {
             if self.house.pending() == 0 {
                 return Ok(());
             }
@@ -180,7 +167,7 @@ impl<S: Station + Drop> Trace<S> {
     fn step(&mut self, rt: &HostRuntime) -> anyhow::Result<()>
         ensures { bus_of S.seats self.new.house ≡ called (step 144) (bus_of S.seats self.old.house) }
     {
-        let mut buffer = [EMPTY; PLACES];
+        let mut buffer = [Frame::default(); PLACES];
         let answer = self.house.step(&mut buffer);
         if let Some(frame) = self.frames.get(self.passed) {
             self.line(rt, "step", *frame)?;
@@ -216,7 +203,7 @@ impl<S: Station + Drop> Trace<S> {
     fn line(&self, rt: &HostRuntime, what: &str, frame: Frame) -> anyhow::Result<()> {
         let hex = Hex(frame);
         let spoken = InWords {
-            module: module_at(self.modules.as_slice(), frame.address),
+            module: self.modules.get(&frame.address).copied(),
             frame,
         };
         println!(rt; "{what:6}{hex}  {spoken}")?;

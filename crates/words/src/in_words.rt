@@ -7,18 +7,17 @@ use crate::times::clock;
 use bus::Frame;
 use std::fmt;
 
-// Which kind of module stands at the address that a frame bears, if that is known.
 #[derive(Clone, Copy, PartialEq, Eq)]
 pub enum ModuleType {
     Relay,
     Panel,
     Buttons,
-    Unknown,
 }
 
+// A frame, and which kind of module stands at the address that it bears, if that is known.
 #[derive(Clone, Copy)]
 pub struct InWords {
-    pub module: ModuleType,
+    pub module: Option<ModuleType>,
     pub frame: Frame,
 }
 
@@ -33,17 +32,17 @@ impl fmt::Display for InWords {
             return memory(&self.frame, f);
         }
         match self.module {
-            ModuleType::Relay => relay(&self.frame, f),
-            ModuleType::Panel => panel(&self.frame, f),
-            ModuleType::Buttons => interface(&self.frame, f),
-            ModuleType::Unknown => clock(&self.frame, f),
+            Some(ModuleType::Relay) => relay(&self.frame, f),
+            Some(ModuleType::Panel) => panel(&self.frame, f),
+            Some(ModuleType::Buttons) => interface(&self.frame, f),
+            None => clock(&self.frame, f),
         }
     }
 }
 
 // Which module the frame is to, or tells of. Address 0 is for all of them.
 fn subject<W: fmt::Write>(
-    module: ModuleType,
+    module: Option<ModuleType>,
     frame: &Frame,
     f: &mut fmt::Formatter<W>,
 ) -> fmt::Result {
@@ -55,10 +54,10 @@ fn subject<W: fmt::Write>(
         f.write_str("to ")?;
     }
     let name = match module {
-        ModuleType::Relay => "relay",
-        ModuleType::Panel => "panel",
-        ModuleType::Buttons => "button interface",
-        ModuleType::Unknown => "unknown module",
+        Some(ModuleType::Relay) => "relay",
+        Some(ModuleType::Panel) => "panel",
+        Some(ModuleType::Buttons) => "button interface",
+        None => "unknown module",
     };
     write!(f, "{name} {address:02X}: ")
 }

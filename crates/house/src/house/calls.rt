@@ -1,20 +1,19 @@
 // The calls of a house. A call answers what it did, or the first refusal that applies; a refusal changes nothing.
 ghost use Rattle.std.specs.Prelude.{◌≡◌, [], length, IfOk, IfErr};
 ghost use Rattle.house.specs.Calls.{put, push, second, step, shown_put, shown_counts};
-ghost use Rattle.house.specs.Turns.{written};
-ghost use Rattle.house.specs.Houses.{pending_of, turn_of};
+ghost use Rattle.house.specs.Houses.{station_of, pending_of, turn_of, TakesTurn};
 
 use super::House;
-use crate::edge::edge_of;
+use crate::built::Built;
 use bus::{Frame, Outbox, Refusal};
-use station::{Event, Push, Station};
+use station::{Event, Station};
 use std::alloc::{AllocFailed, Global};
 use std::collections::VecDeque;
 
 impl<S: Station> House<S> {
     // A house over the station, with nothing pending. Where there is no memory, the station comes back.
     pub fn new(heap: Global, station: S) -> Result<House<S>, AllocFailed<S>>
-        ensures station { IfOk result (λ h. h.station ≡ station) }
+        ensures station { IfOk result (λ h. station_of h ≡ station) }
         ensures pending { IfOk result (λ h. pending_of h ≡ []) }
         ensures refused { IfErr result (λ back. back.value ≡ station) }
     {
@@ -25,7 +24,7 @@ impl<S: Station> House<S> {
             return Err(AllocFailed { value: station });
         };
         Ok(House {
-            station,
+            built: Built::new(station),
             pending,
             outbox,
         })
@@ -40,13 +39,9 @@ impl<S: Station> House<S> {
 
     // Puts a frame on the bus.
     pub fn put(&mut self, frame: Frame) -> Result<(), Refusal>
-        ensures answer { shown_put result ≡ (turn_of S.seats self.old (put frame)).answer }
-        ensures seats { S.seats self.new.station ≡ (turn_of S.seats self.old (put frame)).seats }
-        ensures pending { pending_of self.new ≡ (turn_of S.seats self.old (put frame)).pending }
+        ensures { TakesTurn S.seats (turn_of S.seats self.old (put frame)) (shown_put result) self.new [] [] }
     {
-        if let Some(refusal) = self.refuses_put(&frame) {
-            return Err(refusal);
-        }
+        self.check_put(&frame)?;
         self.pending.push_back_reserved(frame);
         Ok(())
     }
@@ -59,55 +54,26 @@ impl<S: Station> House<S> {
         edge: u8,
         buffer: &mut [Frame],
     ) -> Result<(usize, usize), Refusal>
-        ensures answer { shown_counts result ≡ (turn_of S.seats self.old (push address channel edge (length buffer.old))).answer }
-        ensures seats { S.seats self.new.station ≡ (turn_of S.seats self.old (push address channel edge (length buffer.old))).seats }
-        ensures pending { pending_of self.new ≡ (turn_of S.seats self.old (push address channel edge (length buffer.old))).pending }
-        ensures buffer { buffer.new ≡ written (turn_of S.seats self.old (push address channel edge (length buffer.old))).sent buffer.old }
+        ensures { TakesTurn S.seats (turn_of S.seats self.old (push address channel edge (length buffer.old))) (shown_counts result) self.new buffer.old buffer.new }
     {
-        if let Some(refusal) = self.refuses_push(address, channel, edge, buffer.len()) {
-            return Err(refusal);
-        }
-        let edge = edge_of(edge);
-        let push = Push {
-            address,
-            channel,
-            edge,
-        };
-        let sent = self.act(Event::Pushed(push), buffer);
-        Ok((sent, self.pending()))
+        let push = self.check_push(address, channel, edge, buffer.len())?;
+        Ok(self.act(Event::Pushed(push), buffer))
     }
 
     // A second passes for every seat.
     pub fn second(&mut self, buffer: &mut [Frame]) -> Result<(usize, usize), Refusal>
-        ensures answer { shown_counts result ≡ (turn_of S.seats self.old (second (length buffer.old))).answer }
-        ensures seats { S.seats self.new.station ≡ (turn_of S.seats self.old (second (length buffer.old))).seats }
-        ensures pending { pending_of self.new ≡ (turn_of S.seats self.old (second (length buffer.old))).pending }
-        ensures buffer { buffer.new ≡ written (turn_of S.seats self.old (second (length buffer.old))).sent buffer.old }
+        ensures { TakesTurn S.seats (turn_of S.seats self.old (second (length buffer.old))) (shown_counts result) self.new buffer.old buffer.new }
     {
-        if let Some(refusal) = self.refuses_second(buffer.len()) {
-            return Err(refusal);
-        }
-        let sent = self.act(Event::Second, buffer);
-        Ok((sent, self.pending()))
+        self.check_second(buffer.len())?;
+        Ok(self.act(Event::Second, buffer))
     }
 
     // Takes the frame that waited longest and lets the seats hear it.
     pub fn step(&mut self, buffer: &mut [Frame]) -> Result<(usize, usize), Refusal>
-        ensures answer { shown_counts result ≡ (turn_of S.seats self.old (step (length buffer.old))).answer }
-        ensures seats { S.seats self.new.station ≡ (turn_of S.seats self.old (step (length buffer.old))).seats }
-        ensures pending { pending_of self.new ≡ (turn_of S.seats self.old (step (length buffer.old))).pending }
-        ensures buffer { buffer.new ≡ written (turn_of S.seats self.old (step (length buffer.old))).sent buffer.old }
+        ensures { TakesTurn S.seats (turn_of S.seats self.old (step (length buffer.old))) (shown_counts result) self.new buffer.old buffer.new }
     {
-        if let Some(refusal) = self.refuses_step(buffer.len()) {
-            return Err(refusal);
-        }
-        // `pop_front` would do, but only `remove` promises that the places stay
-        match self.pending.remove(0) {
-            Some(frame) => {
-                let sent = self.act(Event::Heard(frame), buffer);
-                Ok((sent, self.pending()))
-            }
-            None => Err(Refusal::NothingPending),
-        }
+        self.check_step(buffer.len())?;
+        let frame = self.pending.pop_front().ok_or(Refusal::NothingPending)?;
+        Ok(self.act(Event::Heard(frame), buffer))
     }
 }

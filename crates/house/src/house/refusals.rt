@@ -1,80 +1,80 @@
 // What refuses each call, in order.
-ghost use Rattle.std.specs.Prelude.{◌≡◌, [], ◌∷◌, length, Some, None, MatchResult};
+ghost use Rattle.std.specs.Prelude.{[], ◌∷◌, length};
 ghost use Rattle.house.specs.Calls.{put, push, second, step};
-ghost use Rattle.house.specs.Faults.{first};
-ghost use Rattle.house.specs.Turns.{acting, busy, checks, NumbersRise, SmallestFirst};
-ghost use Rattle.house.specs.Houses.{pending_of};
+ghost use Rattle.house.specs.Faults.{first, OkUnless};
+ghost use Rattle.house.specs.Turns.{acting, busy, edge_of, NumbersRise, SmallestFirst};
+ghost use Rattle.house.specs.Houses.{station_of, pending_of, refusal_of};
 
 use super::House;
-use crate::builder::checked_seats;
 use bus::{Frame, Refusal};
-use station::Station;
+use station::{Edge, Push, Station};
 
 impl<S: Station> House<S> {
-    pub(super) fn refuses_put(&self, frame: &Frame) -> Option<Refusal>
-        ensures { result ≡ first (checks (S.seats self.now.station) (pending_of self.now) (put frame.now)) }
+    // Whether the frame may be put.
+    pub(super) fn check_put(&self, frame: &Frame) -> Result<(), Refusal>
+        ensures { OkUnless result (refusal_of S.seats self.now (put frame.now)) tt }
     {
-        if let Err(fault) = checked_seats(&self.station) {
-            return Some(fault);
-        }
+        self.built.seats?;
         if !frame.is_well_formed() {
-            return Some(Refusal::IllFormedFrame);
+            return Err(Refusal::IllFormedFrame);
         }
-        self.refuses_while_busy()
+        self.check_quiet()
     }
 
-    pub(super) fn refuses_push(
+    // The push that the numbers mean, if it may be made with that many places for what is sent.
+    pub(super) fn check_push(
         &self,
         address: u8,
         channel: u8,
         edge: u8,
         places: usize,
-    ) -> Option<Refusal>
-        ensures { result ≡ first (checks (S.seats self.now.station) (pending_of self.now) (push address channel edge places)) }
+    ) -> Result<Push, Refusal>
+        ensures { OkUnless result (refusal_of S.seats self.now (push address channel edge places)) (record { address = address; channel = channel; edge = edge_of edge }) }
     {
-        if let Err(refusal) = self.seats_to_act(places) {
-            return Some(refusal);
+        self.seats_to_act(places)?;
+        if self.built.station.standing(address) == 0 {
+            return Err(Refusal::NoSuchSeat);
         }
-        if self.station.standing(address) == 0 {
-            return Some(Refusal::NoSuchSeat);
+        if channel == 0 || channel > self.built.station.buttons(address) {
+            return Err(Refusal::NoSuchButton);
         }
-        if channel == 0 || channel > self.station.buttons(address) || edge > 2 {
-            return Some(Refusal::NoSuchButton);
-        }
-        self.refuses_while_busy()
+        let edge = Edge::try_from(edge)?;
+        self.check_quiet()?;
+        Ok(Push {
+            address,
+            channel,
+            edge,
+        })
     }
 
-    pub(super) fn refuses_second(&self, places: usize) -> Option<Refusal>
-        ensures { result ≡ first (checks (S.seats self.now.station) (pending_of self.now) (second places)) }
+    // Whether a second may pass with that many places.
+    pub(super) fn check_second(&self, places: usize) -> Result<(), Refusal>
+        ensures { OkUnless result (refusal_of S.seats self.now (second places)) tt }
     {
-        match self.seats_to_act(places) {
-            Ok(_) => self.refuses_while_busy(),
-            Err(refusal) => Some(refusal),
-        }
+        self.seats_to_act(places)?;
+        self.check_quiet()
     }
 
-    pub(super) fn refuses_step(&self, places: usize) -> Option<Refusal>
-        ensures { result ≡ first (checks (S.seats self.now.station) (pending_of self.now) (step places)) }
+    // Whether a step may be made with that many places.
+    pub(super) fn check_step(&self, places: usize) -> Result<(), Refusal>
+        ensures { OkUnless result (refusal_of S.seats self.now (step places)) tt }
     {
-        let seats = match self.seats_to_act(places) {
-            Ok(seats) => seats,
-            Err(refusal) => return Some(refusal),
-        };
+        let seats = self.seats_to_act(places)?;
         let pending = self.pending();
         if pending == 0 {
-            return Some(Refusal::NothingPending);
+            return Err(Refusal::NothingPending);
         }
         if pending - 1 + 9 * seats > 256 {
-            return Some(Refusal::NoRoom);
+            return Err(Refusal::NoRoom);
         }
-        None
+        Ok(())
     }
 
-    // The number of seats, or what refuses to let them act with that many places for what they send.
+    // The number of seats, if they may act with that many places.
     fn seats_to_act(&self, places: usize) -> Result<usize, Refusal>
-        ensures { MatchResult result (λ n. (first (acting (S.seats self.now.station) places) ≡ None) × (n ≡ length (S.seats self.now.station))) (λ e. first (acting (S.seats self.now.station) places) ≡ Some e) }
+        ensures { OkUnless result (first (acting (S.seats (station_of self.now)) places)) (length (S.seats (station_of self.now))) }
     {
-        let seats = checked_seats(&self.station)?;
+        let seats = self.built.seats?;
         if places < 9 * seats {
             return Err(Refusal::ShortBuffer);
         }
@@ -82,14 +82,13 @@ impl<S: Station> House<S> {
     }
 
     // Some calls need a quiet house.
-    fn refuses_while_busy(&self) -> Option<Refusal>
-        ensures { result ≡ first (busy (pending_of self.now) ∷ []) }
+    fn check_quiet(&self) -> Result<(), Refusal>
+        ensures { OkUnless result (first (busy (pending_of self.now) ∷ [])) tt }
     {
         if self.pending() > 0 {
-            Some(Refusal::NotQuiet)
-        } else {
-            None
+            return Err(Refusal::NotQuiet);
         }
+        Ok(())
     }
 }
 

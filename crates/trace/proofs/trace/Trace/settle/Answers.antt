@@ -1,17 +1,12 @@
-use Rattle.std.proofs.Common.{◌+◌, ap, ◌∙◌, arith, rules}
-use Rattle.house.specs.Calls.{step}
-use Rattle.trace.specs.Traces.{called, bus_of}
+use Rattle.std.proofs.Common.{◌+◌, arith}
 use Rattle.trace.proofs.Steps.{steps_none, steps_more}
 use Rattle.trace.proofs.trace.Trace.settle.Goals as goal
 
-pub loop-n-init : goal.loop-n-init
-loop-n-init g c = steps_none _
+pub loop-init : goal.loop-init
+loop-init g c = steps_none _
 
-pub loop-n-preserved : goal.loop-n-preserved
-loop-n-preserved g c =
-    c.step.ensures ∙ (ap (called (step 144)) c.loop-n.invariant ∙ steps_more c.loop-n.n (bus_of g.S.Station.seats c.args.self.now.house))
+pub loop-preserved : goal.loop-preserved
+loop-preserved g c = steps_more _ _ _ _ c.loop.invariant c.step.ensures
 
-pub returns-in_err-step : goal.returns-in_err-step
-returns-in_err-step g c =
-    let more = c.step.ensures ∙ (ap (called (step 144)) c.loop-n.invariant ∙ steps_more c.loop-n.n (bus_of g.S.Station.seats c.args.self.now.house)) in
-    record { led = (c.loop-n.n + 1, omega arith, more); quiet = search rules }
+pub returns-in_err-step-clause-led : goal.returns-in_err-step-clause-led
+returns-in_err-step-clause-led g c = (c.loop.counter + 1, omega arith, steps_more _ _ _ _ c.loop.invariant c.step.ensures)

@@ -3,5 +3,5 @@ use Rattle.trace.specs.Traces.{bus_of, steps}
 use Rattle.trace.proofs.trace.Trace.settle.Given as goal
 
 -- as many steps as turns
-abbrev pub invariant-loop-n : goal.invariant-loop-n
-invariant-loop-n g l = bus_of g.S.Station.seats l.self.house ≡ steps l.n (bus_of g.S.Station.seats l.initial.self.house)
+abbrev pub invariant-loop : goal.invariant-loop
+invariant-loop g l = bus_of g.S.Station.seats l.self.house ≡ steps l.counter (bus_of g.S.Station.seats l.initial.self.house)
