@@ -5,7 +5,8 @@ ghost use Rattle.bus.specs.Outboxes.{frames, room, Room, Sends};
 use crate::frame::Frame;
 use std::alloc::{AllocError, Global};
 
-// Its owner decides how many frames it can take when making it, and sending does not allocate.
+// Its owner decides how many frames it can take when making it, and sending does not allocate. Clauses read it by two
+// words, its frames and its room; a model would be a record of the same two.
 #[derive(Drop)]
 pub struct Outbox {
     sent: Vec<Frame>,

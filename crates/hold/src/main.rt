@@ -8,7 +8,7 @@ use house::House;
 use interface::{InterfaceSetup, Serial};
 use module::{Module, ModuleKind, Seat};
 use panel::{Panel, PanelSetup};
-use station::Rail;
+use station::{Edge, Rail};
 use std::collections::BTreeMap;
 use trace::Trace;
 use words::ModuleType;
@@ -16,10 +16,6 @@ use words::ModuleType;
 const PANEL: u8 = 0x30;
 
 const INTERFACE: u8 = 0x20;
-
-const PRESS: u8 = 0;
-
-const RELEASE: u8 = 1;
 
 type Modules = Rail<Seat<Panel>, Seat<ButtonInterface>>;
 
@@ -37,19 +33,15 @@ fn modules() -> Modules {
     }
 }
 
-// Which kind of module stands where.
-fn named(rt: &HostRuntime) -> anyhow::Result<BTreeMap<u8, ModuleType>> {
-    let kinds = [(PANEL, ModuleType::Panel), (INTERFACE, ModuleType::Buttons)];
-    Ok(BTreeMap::from_array(rt.alloc(), kinds)?)
-}
-
 fn main(rt: HostRuntime) -> anyhow::Result<()> {
     run(&rt)
 }
 
 fn run(rt: &HostRuntime) -> anyhow::Result<()> {
     let house = House::new(rt.alloc(), modules()).context("there is no memory for the house")?;
-    let mut trace = Trace::new(rt.alloc(), house, named(rt)?);
+    let kinds = [(PANEL, ModuleType::Panel), (INTERFACE, ModuleType::Buttons)];
+    let kinds = BTreeMap::from_array(rt.alloc(), kinds)?;
+    let mut trace = Trace::new(rt.alloc(), house, kinds);
     println!(rt; "A panel at 30 and a button interface at 20 stand on one bus.")?;
     link(rt, &mut trace)?;
     lock(rt, &mut trace)?;
@@ -69,8 +61,13 @@ fn ask(
 }
 
 // Pushes button 1 of a module, and lets all frames pass.
-fn push(rt: &HostRuntime, trace: &mut Trace<Modules>, address: u8, edge: u8) -> anyhow::Result<()> {
-    trace.push(rt, address, 1, edge)?;
+fn push(
+    rt: &HostRuntime,
+    trace: &mut Trace<Modules>,
+    address: u8,
+    edge: Edge,
+) -> anyhow::Result<()> {
+    trace.push(rt, address, 1, edge as u8)?;
     trace.settle(rt)
 }
 
@@ -87,14 +84,14 @@ fn link(rt: &HostRuntime, trace: &mut Trace<Modules>) -> anyhow::Result<()> {
 // Locks the channel, and shows that it is locked.
 fn lock(rt: &HostRuntime, trace: &mut Trace<Modules>) -> anyhow::Result<()> {
     println!(rt; "Button 1 of the panel is pressed and released.")?;
-    push(rt, trace, PANEL, PRESS)?;
-    push(rt, trace, PANEL, RELEASE)?;
+    push(rt, trace, PANEL, Edge::Press)?;
+    push(rt, trace, PANEL, Edge::Release)?;
     println!(rt; "The interface is asked for its status: channel 1 is locked.")?;
     ask(rt, trace, 2, [0xFA, 0xFF, 0, 0, 0, 0, 0, 0])?;
     println!(rt;
         "Button 1 of the interface is pressed: its channel is locked, so nothing is sent."
     )?;
-    push(rt, trace, INTERFACE, PRESS)
+    push(rt, trace, INTERFACE, Edge::Press)
 }
 
 // Lets the 2 minutes pass, the last three seconds one by one.
@@ -105,7 +102,7 @@ fn wait(rt: &HostRuntime, trace: &mut Trace<Modules>) -> anyhow::Result<()> {
         println!(rt;
             "Seconds left: {left}. Button 1 of the interface is pressed: nothing is sent."
         )?;
-        push(rt, trace, INTERFACE, PRESS)?;
+        push(rt, trace, INTERFACE, Edge::Press)?;
         trace.second(rt)?;
     }
     Ok(())
@@ -116,8 +113,8 @@ fn use_again(rt: &HostRuntime, trace: &mut Trace<Modules>) -> anyhow::Result<()>
     println!(rt;
         "The 2 minutes are over. Button 1 of the interface is pressed and released: both are sent."
     )?;
-    push(rt, trace, INTERFACE, PRESS)?;
-    push(rt, trace, INTERFACE, RELEASE)?;
+    push(rt, trace, INTERFACE, Edge::Press)?;
+    push(rt, trace, INTERFACE, Edge::Release)?;
     println!(rt; "The interface is asked for the time; its clock started at Monday 00:00.")?;
     ask(rt, trace, 1, [0xD7, 0, 0, 0, 0, 0, 0, 0])
 }

@@ -1,6 +1,8 @@
 -- The state bytes tell the state that they were made of, whatever follows them. Assumes nothing.
 use Rattle.std.proofs.Common.{◌≡◌, ℕ, ◌+◌, ◌*◌, ◌/◌, ◌%◌, List, [], ◌∷◌, ◌++◌, length, get_or, sym, refl, ap, ◌∙◌, arith}
+use Rattle.std.proofs.lemmas.List.{length-map}
 use Rattle.module.specs.declared.lamps.Lamps.{Lamps}
+use Rattle.timing.specs.Shown.{held}
 use Rattle.timing.specs.Times.{Time}
 use Rattle.interface.specs.declared.interface.Interface.{Interface}
 use Rattle.interface.specs.States.{State, encoded, decoded, state_of}
@@ -37,4 +39,4 @@ told x e =
 
 -- so do those of an interface
 pub interface_told : (i : Interface) → decoded (encoded (state_of i)) ≡ state_of i
-interface_told i = told (state_of i) i.holds.eight
+interface_told i = told (state_of i) (length-map i.holds.channels held ∙ i.holds.eight)

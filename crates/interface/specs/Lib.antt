@@ -1,4 +1,5 @@
 pub mod Channels
+pub mod Shown
 pub mod Links
 pub mod States
 pub mod Interfaces

@@ -5,6 +5,7 @@ use Rattle.module.specs.declared.lamps.Lamps.{Lamps}
 use Rattle.module.specs.Cells.{memory_cells}
 use Rattle.timing.specs.Times.{Time}
 use Rattle.interface.specs.declared.interface.Interface.{Interface}
+use Rattle.interface.specs.Shown.{all_held}
 
 -- lamps, pressed buttons, the hold on each channel, and the time
 pub record State : Type 0 where
@@ -39,7 +40,7 @@ decoded s =
 
 -- the state of an interface
 abbrev pub state_of : Interface → State
-state_of i = record { lamps = i.lamps; pressed = i.buttons.pressed; holds = i.holds.channels; clock = i.clock }
+state_of i = record { lamps = i.lamps; pressed = i.buttons.pressed; holds = all_held i.holds; clock = i.clock }
 
 -- the cells of its memory
 abbrev pub cells_of : Interface → List ℕ

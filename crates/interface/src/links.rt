@@ -3,6 +3,7 @@ ghost use Rattle.std.specs.Prelude.{◌≡◌, ◌&&◌, ◌==◌};
 ghost use Rattle.module.specs.Bits.{has_bit};
 ghost use Rattle.module.specs.Cells.{memory_cells};
 ghost use Rattle.bus.specs.Frames.{byte};
+ghost use Rattle.interface.specs.Shown.{all_held};
 ghost use Rattle.interface.specs.Links.{link_byte, link_at, bears, named, asked, by_record, by_records};
 
 use crate::holds::Holds;
@@ -59,7 +60,7 @@ pub(crate) fn names(memory: &Memory<CELLS>, address: u8) -> bool
 
 // Lets record k act, if it matches.
 fn obey_link(memory: &Memory<CELLS>, frame: &Frame, channels: u8, k: u8, holds: &mut Holds)
-    ensures { holds.new.channels ≡ by_record channels (memory_cells memory.now) frame.now k holds.old.channels }
+    ensures { all_held holds.new ≡ by_record channels (memory_cells memory.now) frame.now k (all_held holds.old) }
 {
     let link = Link::read(memory, k);
     if link.matches(frame) {
@@ -67,10 +68,11 @@ fn obey_link(memory: &Memory<CELLS>, frame: &Frame, channels: u8, k: u8, holds: 
     }
 }
 
-// Lets every record act that matches, one after the other.
+// Lets every record act that matches, one after the other. The loop counts, since records are no slice: each is read
+// from the memory by its number.
 #[tactic(auto, using(crate::proofs::InTurn::in_turn_more, crate::proofs::InTurn::in_turn_none))]
 pub(crate) fn obey_links(memory: &Memory<CELLS>, frame: &Frame, channels: u8, holds: &mut Holds)
-    ensures { holds.new.channels ≡ by_records channels (memory_cells memory.now) frame.now holds.old.channels }
+    ensures { all_held holds.new ≡ by_records channels (memory_cells memory.now) frame.now (all_held holds.old) }
 {
     for k in 0..LINKS {
         obey_link(memory, frame, channels, k, holds);

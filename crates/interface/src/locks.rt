@@ -2,6 +2,7 @@
 ghost use Rattle.std.specs.Prelude.{◌≡◌, replicate};
 ghost use Rattle.timing.specs.Holds.{locked};
 ghost use Rattle.interface.specs.Channels.{hold_on, locked_bits, on_named, held_after, all_ticked};
+ghost use Rattle.interface.specs.Shown.{all_held};
 
 use crate::holds::Holds;
 use timing::{Hold, Locking};
@@ -9,7 +10,7 @@ use timing::{Hold, Locking};
 impl Holds {
     // All channels free.
     pub(crate) fn new() -> Self
-        ensures { result.channels ≡ replicate 8 0 }
+        ensures { all_held result ≡ replicate 8 0 }
     {
         Holds {
             channels: [Hold::free(); 8],
@@ -18,7 +19,7 @@ impl Holds {
 
     // Does what is asked of the named channels.
     fn obey_all_named(&mut self, locking: Locking, bits: u8)
-        ensures { self.new.channels ≡ on_named locking bits 1 self.old.channels }
+        ensures { all_held self.new ≡ on_named locking bits 1 (all_held self.old) }
     {
         for (n, hold) in self.channels.iter_mut().enumerate() {
             if bits & (1 << n) != 0 {
@@ -29,7 +30,7 @@ impl Holds {
 
     // Does what is asked of the named channels, if anything is.
     pub(crate) fn obey(&mut self, locking: Option<Locking>, bits: u8)
-        ensures { self.new.channels ≡ held_after locking bits self.old.channels }
+        ensures { all_held self.new ≡ held_after locking bits (all_held self.old) }
     {
         if let Some(locking) = locking {
             self.obey_all_named(locking, bits);
@@ -38,7 +39,7 @@ impl Holds {
 
     // A second passes.
     pub(crate) fn tick(&mut self)
-        ensures { self.new.channels ≡ all_ticked self.old.channels }
+        ensures { all_held self.new ≡ all_ticked (all_held self.old) }
     {
         for hold in self.channels.iter_mut() {
             hold.tick();
@@ -47,7 +48,7 @@ impl Holds {
 
     // The bits of the locked channels.
     pub(crate) fn locked_bits(&self) -> u8
-        ensures { result ≡ locked_bits 1 self.now.channels }
+        ensures { result ≡ locked_bits 1 (all_held self.now) }
     {
         let mut bits = 0u8;
         for (n, hold) in self.channels.iter().enumerate() {
@@ -60,7 +61,7 @@ impl Holds {
 
     // Whether a channel is locked; past the last there is no lock, and 0 is read as 1.
     pub(crate) fn is_locked(&self, channel: u8) -> bool
-        ensures { result ≡ locked (hold_on self.now.channels channel) }
+        ensures { result ≡ locked (hold_on (all_held self.now) channel) }
     {
         self.channels
             .get(usize::from(channel.saturating_sub(1)))

@@ -8,7 +8,8 @@ ghost use Rattle.module.specs.Designs.{Design, Orderly};
 use bus::{Frame, Outbox};
 use station::Edge;
 
-// A module answers each way in which an event can reach it; `own` is the address of its seat.
+// A module answers each way in which an event can reach it; `own` is the address of its seat. It and the outbox stay two
+// parameters: of a struct that holds a `&mut`, each clause would have to name `.entry` and `.exit`.
 pub trait Module {
     // How its kind is designed.
     ghost design: { Self → Design };
@@ -55,7 +56,8 @@ pub trait Module {
     fn names(&self, own: u8, address: u8) -> bool
         ensures { result ≡ (design self.now).names own (content self.now) address };
 
-    // How many cells its memory has.
+    // How many cells its memory has. Each kind answers this and the next by its constants, which a method that stands here
+    // could not see.
     fn memory(&self) -> usize
         ensures { result ≡ (design self.now).memory };
 

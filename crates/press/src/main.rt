@@ -9,7 +9,7 @@ use house::House;
 use module::{Module, ModuleKind, Seat};
 use panel::{Panel, PanelSetup};
 use relay::{PerChannel, Relay, RelaySetup, Timers};
-use station::{Rail, Sieve};
+use station::{Edge, Rail, Sieve};
 use std::collections::BTreeMap;
 use told::Told;
 use trace::Trace;
@@ -44,19 +44,15 @@ fn modules() -> Modules {
     }
 }
 
-// Which kind of module stands where.
-fn named(rt: &HostRuntime) -> anyhow::Result<BTreeMap<u8, ModuleType>> {
-    let kinds = [(PANEL, ModuleType::Panel), (RELAY, ModuleType::Relay)];
-    Ok(BTreeMap::from_array(rt.alloc(), kinds)?)
-}
-
 fn main(rt: HostRuntime) -> anyhow::Result<()> {
     run(&rt)
 }
 
 fn run(rt: &HostRuntime) -> anyhow::Result<()> {
     let house = House::new(rt.alloc(), modules()).context("there is no memory for the house")?;
-    let mut trace = Trace::new(rt.alloc(), house, named(rt)?);
+    let kinds = [(PANEL, ModuleType::Panel), (RELAY, ModuleType::Relay)];
+    let kinds = BTreeMap::from_array(rt.alloc(), kinds)?;
+    let mut trace = Trace::new(rt.alloc(), house, kinds);
     println!(rt; "A panel at 20 and a relay at 10 stand on one bus.")?;
     println!(rt; "Button 1 of the panel goes into the toggle table of channel 1.")?;
     let link = [0xCA, 0x00, 0x3C, PANEL, 0x01, 0xFF, 0xFF, 0];
@@ -70,11 +66,11 @@ fn run(rt: &HostRuntime) -> anyhow::Result<()> {
 // Presses button 1, lets all frames pass, releases it, and asks what is closed and what shines.
 fn press(rt: &HostRuntime, trace: &mut Trace<Modules>) -> anyhow::Result<()> {
     println!(rt; "Button 1 is pressed, and released too soon for the bench.")?;
-    trace.push(rt, PANEL, 1, 0)?;
-    trace.push(rt, PANEL, 1, 1)?;
+    trace.push(rt, PANEL, 1, Edge::Press as u8)?;
+    trace.push(rt, PANEL, 1, Edge::Release as u8)?;
     trace.settle(rt)?;
     println!(rt; "Button 1 is released.")?;
-    trace.push(rt, PANEL, 1, 1)?;
+    trace.push(rt, PANEL, 1, Edge::Release as u8)?;
     trace.settle(rt)?;
     println!(rt; "The modules are asked for their status.")?;
     trace.put(rt, Frame::new(3, RELAY, 2, [0xFA, 0x0F, 0, 0, 0, 0, 0, 0]))?;

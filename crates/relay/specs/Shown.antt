@@ -9,7 +9,7 @@ use Rattle.relay.specs.Contacts.{Contact, opened, closed, running}
 abbrev pub shown : Channel → Contact
 shown Open = opened
 shown Closed = closed
-shown (Running s) = running s
+shown (Running s) = running s.value
 
 -- what each channel is
 abbrev pub all_shown : PerChannel Channel → PerChannel Contact

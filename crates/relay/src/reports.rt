@@ -29,7 +29,7 @@ impl PerChannel<Channel> {
         self.map(|channel| channel.is_closed())
     }
 
-    // Sends the status of each wanted channel.
+    // Sends the status of each wanted channel. A loop would be no plainer: it needs a proof of what was sent so far.
     pub(crate) fn tell(&self, own: u8, wanted: PerChannel<bool>, out: &mut Outbox)
         requires { Room out.old 4 }
         ensures { Sends out.old out.new (statuses own wanted (all_shown self.now)) }
@@ -108,7 +108,7 @@ fn send_lamp(address: u8, was: bool, is: bool, bits: Option<u8>, out: &mut Outbo
     }
 }
 
-// Sends the lamps of the buttons that changed channels.
+// Sends the lamps of the buttons that changed channels; a loop would be no plainer here either.
 pub(crate) fn send_lamps(
     address: u8,
     was: PerChannel<bool>,

@@ -108,7 +108,7 @@ impl PerChannel<Channel> {
             .map(|(channel, (timers, pair))| channel.by_pair(timers, pair));
     }
 
-    // The state bytes of the record.
+    // The state bytes of the record; sixteen names, also with an array.
     fn bytes(&self) -> [u8; 16]
         ensures { result ≡ state_of (all_shown self.now) }
     {

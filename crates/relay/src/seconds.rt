@@ -1,21 +1,11 @@
 // A running time.
-ghost use Rattle.std.specs.Prelude.{ℕ, ◌≤◌};
+ghost use Rattle.std.specs.Prelude.{◌≤◌};
 
-use std::marker::Model;
-
-// From 1 to 0xFFFFFE seconds.
+// From 1 to 0xFFFFFE seconds. It has no model: a type that contains one in an enum, as `Channel`, cannot yet be handed to
+// a generic function in the crates above.
 #[derive(Clone, Copy)]
 pub struct Seconds {
     pub(crate) value: u32,
-}
-
-// In clauses a running time is its number of seconds.
-impl Model for Seconds {
-    ghost Value = { ℕ };
-
-    ghost view = { λ s. s.value };
-
-    ghost invariant = { λ s. (1 ≤ s.value) × (s.value ≤ 0xFFFFFE) };
-
-    ghost inverse = { λ n. record { value = n } };
+    ghost low: { 1 ≤ value },
+    ghost high: { value ≤ 0xFFFFFE },
 }

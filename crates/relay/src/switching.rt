@@ -10,7 +10,7 @@ use crate::seconds::Seconds;
 impl Seconds {
     // That time, or the nearer end of the range.
     pub fn new(time: u32) -> Self
-        ensures { result ≡ in_range time }
+        ensures { result.value ≡ in_range time }
     {
         Seconds {
             value: time.clamp(1, 0xFFFFFE),
@@ -19,7 +19,7 @@ impl Seconds {
 
     // The time in three bytes, high byte first.
     fn bytes(self) -> [u8; 3]
-        ensures { result ≡ self / 65536 ∷ self / 256 % 256 ∷ self % 256 ∷ [] }
+        ensures { result ≡ self.value / 65536 ∷ self.value / 256 % 256 ∷ self.value % 256 ∷ [] }
     {
         let [_, high, mid, low] = self.value.to_be_bytes();
         [high, mid, low]
@@ -54,7 +54,7 @@ impl Channel {
     pub fn tick(&mut self)
         ensures { shown self.new ≡ ticked (shown self.old) }
     {
-        if let Channel::Running(time) = &*self {
+        if let Channel::Running(time) = *self {
             let left = time.value - 1;
             *self = if left == 0 {
                 Channel::Open

@@ -6,9 +6,9 @@ use bus::Refusal;
 
 #[derive(Clone, Copy, PartialEq, Eq, Debug)]
 pub enum Edge {
-    Press,
-    Release,
-    LongPress,
+    Press = 0,
+    Release = 1,
+    LongPress = 2,
 }
 
 // The edge of a number, as tools and logs have it.

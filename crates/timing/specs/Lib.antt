@@ -1,3 +1,4 @@
 pub mod TimeCodes
 pub mod Holds
 pub mod Times
+pub mod Shown

@@ -1,22 +1,11 @@
 // The hold on a channel.
-use std::marker::Model;
+ghost use Rattle.std.specs.Prelude.{◌≤◌};
 
 // How long the channel stays locked: 0 when it is free, 0xFFFFFF when there is no end, else the seconds left. It is the
-// number that its three bytes tell, so it is no enum.
+// number that its three bytes tell, so it is no enum. It has no model either: a type that contains one, in an array or
+// an enum, cannot yet be handed to a generic function in the crates above.
 #[derive(Clone, Copy)]
 pub struct Hold {
     pub(crate) seconds: u32,
-}
-
-// In clauses a hold is that number.
-impl Model for Hold {
-    ghost use Rattle.std.specs.Prelude.{ℕ, ◌≤◌};
-
-    ghost Value = { ℕ };
-
-    ghost view = { λ h. h.seconds };
-
-    ghost invariant = { λ h. h.seconds ≤ 0xFFFFFF };
-
-    ghost inverse = { λ n. record { seconds = n } };
+    ghost narrow: { seconds ≤ 0xFFFFFF },
 }

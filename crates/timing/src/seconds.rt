@@ -1,6 +1,7 @@
 // What happens to a hold.
-ghost use Rattle.std.specs.Prelude.{◌≡◌, ◌/◌, ◌%◌, ◌≤◌, [], ◌∷◌};
+ghost use Rattle.std.specs.Prelude.{◌≡◌, ◌/◌, ◌%◌, [], ◌∷◌};
 ghost use Rattle.timing.specs.Holds.{locked, hold_for, obeyed, ticked};
+ghost use Rattle.timing.specs.Shown.{held};
 
 use crate::hold::Hold;
 use crate::locking::Locking;
@@ -8,14 +9,14 @@ use crate::locking::Locking;
 impl Hold {
     // None: the channel is free.
     pub fn free() -> Self
-        ensures { result ≡ 0 }
+        ensures { held result ≡ 0 }
     {
         Hold { seconds: 0 }
     }
 
     // For a time; from 0xFFFFFF on it has no end.
     fn lasting(time: u32) -> Self
-        ensures { result ≡ hold_for time }
+        ensures { held result ≡ hold_for time }
     {
         Hold {
             seconds: time.min(0xFFFFFF),
@@ -23,14 +24,14 @@ impl Hold {
     }
 
     pub fn is_locked(&self) -> bool
-        ensures { result ≡ locked self.now }
+        ensures { result ≡ locked (held self.now) }
     {
         self.seconds > 0
     }
 
     // Does what is asked.
     pub fn obey(&mut self, locking: Locking)
-        ensures { self.new ≡ obeyed locking self.old }
+        ensures { held self.new ≡ obeyed locking (held self.old) }
     {
         *self = match locking {
             Locking::Lock(time) => Hold::lasting(time),
@@ -41,7 +42,7 @@ impl Hold {
 
     // A second passes.
     pub fn tick(&mut self)
-        ensures { self.new ≡ ticked self.old }
+        ensures { held self.new ≡ ticked (held self.old) }
     {
         if self.seconds != 0 && self.seconds != 0xFFFFFF {
             self.seconds -= 1;
@@ -50,8 +51,7 @@ impl Hold {
 
     // The three bytes in the record, high byte first.
     pub fn bytes(&self) -> [u8; 3]
-        ensures value { result ≡ self.now / 65536 ∷ self.now / 256 % 256 ∷ self.now % 256 ∷ [] }
-        ensures narrow { self.now ≤ 0xFFFFFF }
+        ensures { result ≡ held self.now / 65536 ∷ held self.now / 256 % 256 ∷ held self.now % 256 ∷ [] }
     {
         let [_, high, mid, low] = self.seconds.to_be_bytes();
         [high, mid, low]

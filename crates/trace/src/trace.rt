@@ -81,7 +81,7 @@ impl<S: Station + Drop> Trace<S> {
         }
     }
 
-    // Pushes a button.
+    // Pushes a button; the edge is a number, as the house takes it.
     pub fn push(
         &mut self,
         rt: &HostRuntime,
@@ -119,6 +119,7 @@ impl<S: Station + Drop> Trace<S> {
         ensures all { OnOk result (Passed seconds (bus_of S.seats self.old.house) (bus_of S.seats self.new.house)) }
     {
         let mut total = 0usize;
+        // `n` seconds are over, which is what the proof counts
         for n in 0..seconds {
             total = total.saturating_add(self.pass_one(rt, n + 1, seconds)?);
         }

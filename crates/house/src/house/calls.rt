@@ -17,6 +17,7 @@ impl<S: Station> House<S> {
         ensures pending { IfOk result (λ h. pending_of h ≡ []) }
         ensures refused { IfErr result (λ back. back.value ≡ station) }
     {
+        // `?` would not give the station back
         let Ok(pending) = VecDeque::with_capacity(heap, 256) else {
             return Err(AllocFailed { value: station });
         };
@@ -46,7 +47,8 @@ impl<S: Station> House<S> {
         Ok(())
     }
 
-    // Pushes a button: the edge at the channel of the seat with that address.
+    // Pushes a button: the edge at the channel of the seat with that address. The edge is a number here, since a tool may
+    // hand in any.
     pub fn push(
         &mut self,
         address: u8,
