@@ -470,8 +470,8 @@ fn check_state(
     seat: &Seat<ButtonInterface>,
     expected: [u8; 32],
 ) -> Result<(), Fail> {
-    for (i, byte) in expected.iter().enumerate() {
-        assert_eq!(rt; seat.byte(0x20, 1024 + i), Some(*byte));
+    for (place, byte) in (1024..1056).zip(expected.iter()) {
+        assert_eq!(rt; seat.byte(0x20, place), Some(*byte));
     }
     assert_eq!(rt; seat.byte(0x20, 1056), None);
     Ok(())
