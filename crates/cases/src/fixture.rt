@@ -71,7 +71,8 @@ fn house_over<S: Station + Drop>(heap: Global, station: S) -> Result<House<S>, F
     House::new(heap, station).map_err(|_| Fail::new("no memory"))
 }
 
-// Something that is done: a frame is put, a button pushed, or seconds pass.
+// Something that is done: a frame is put, a button pushed (address, channel and edge, as the house takes them), or seconds
+// pass.
 #[derive(Clone, Copy)]
 pub(crate) enum Input {
     Put([u8; 12]),

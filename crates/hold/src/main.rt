@@ -1,7 +1,7 @@
 // Shows how a button of a panel locks a channel of a button interface, which is free again when the time is over.
 #![tactic(auto)]
 
-use anyhow::Context;
+use anyhow::anyhow;
 use bus::Frame;
 use buttons::ButtonInterface;
 use house::House;
@@ -38,7 +38,8 @@ fn main(rt: HostRuntime) -> anyhow::Result<()> {
 }
 
 fn run(rt: &HostRuntime) -> anyhow::Result<()> {
-    let house = House::new(rt.alloc(), modules()).context("there is no memory for the house")?;
+    let house = House::new(rt.alloc(), modules())
+        .map_err(|_| anyhow!("there is no memory for the house"))?;
     let kinds = [(PANEL, ModuleType::Panel), (INTERFACE, ModuleType::Buttons)];
     let kinds = BTreeMap::from_array(rt.alloc(), kinds)?;
     let mut trace = Trace::new(rt.alloc(), house, kinds);

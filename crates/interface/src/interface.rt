@@ -6,6 +6,7 @@ use timing::Clock;
 // How many cells the memory has.
 pub const CELLS: usize = 1024;
 
+// Clauses read it by two words, its cells and its state; a model would be a record of the same two.
 #[derive(Drop)]
 pub struct Interface {
     pub(crate) memory: Memory<CELLS>,

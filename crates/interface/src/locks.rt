@@ -17,7 +17,7 @@ impl Holds {
         }
     }
 
-    // Does what is asked of the named channels.
+    // Does what is asked of the named channels; the number of a hold is the place of its bit.
     fn obey_all_named(&mut self, locking: Locking, bits: u8)
         ensures { all_held self.new ≡ on_named locking bits 1 (all_held self.old) }
     {

@@ -1,6 +1,6 @@
 // The lamps beside the buttons of a module.
 ghost use Rattle.std.specs.Prelude.{◌≡◌};
-ghost use Rattle.module.specs.LampBytes.{marked, in_mode, lamps_after};
+ghost use Rattle.module.specs.LampBytes.{marked, put_in, lamps_after};
 
 use bus::Frame;
 
@@ -12,44 +12,14 @@ pub struct Lamps {
     pub fast: u8,
 }
 
-// A way to shine: whether the bits for on, slow and fast blinking are set.
+// How a lamp shines.
 #[derive(Clone, Copy)]
-struct Mode {
-    on: bool,
-    slow: bool,
-    fast: bool,
-}
-
-impl Mode {
-    const OUT: Mode = Mode {
-        on: false,
-        slow: false,
-        fast: false,
-    };
-
-    const ON: Mode = Mode {
-        on: true,
-        slow: false,
-        fast: false,
-    };
-
-    const SLOW: Mode = Mode {
-        on: false,
-        slow: true,
-        fast: false,
-    };
-
-    const FAST: Mode = Mode {
-        on: false,
-        slow: false,
-        fast: true,
-    };
-
-    const VERY_FAST: Mode = Mode {
-        on: false,
-        slow: true,
-        fast: true,
-    };
+enum Mode {
+    Out,
+    On,
+    Slow,
+    Fast,
+    VeryFast,
 }
 
 // A byte with the named bits set, or cleared.
@@ -73,11 +43,11 @@ impl Lamps {
 
     // Puts the named lamps in one mode.
     fn set(&mut self, mode: Mode, bits: u8)
-        ensures { self.new ≡ in_mode mode.on mode.slow mode.fast self.old bits }
+        ensures { self.new ≡ put_in mode self.old bits }
     {
-        self.on = mark(mode.on, self.on, bits);
-        self.slow = mark(mode.slow, self.slow, bits);
-        self.fast = mark(mode.fast, self.fast, bits);
+        self.on = mark(matches!(mode, Mode::On), self.on, bits);
+        self.slow = mark(matches!(mode, Mode::Slow | Mode::VeryFast), self.slow, bits);
+        self.fast = mark(matches!(mode, Mode::Fast | Mode::VeryFast), self.fast, bits);
     }
 
     // Obeys a lamp command; any other frame does nothing here.
@@ -90,15 +60,15 @@ impl Lamps {
             self.slow = frame.bytes[2];
             self.fast = frame.bytes[3];
         } else if frame.is_command(0xF5, 2) {
-            self.set(Mode::OUT, bits);
+            self.set(Mode::Out, bits);
         } else if frame.is_command(0xF6, 2) {
-            self.set(Mode::ON, bits);
+            self.set(Mode::On, bits);
         } else if frame.is_command(0xF7, 2) {
-            self.set(Mode::SLOW, bits);
+            self.set(Mode::Slow, bits);
         } else if frame.is_command(0xF8, 2) {
-            self.set(Mode::FAST, bits);
+            self.set(Mode::Fast, bits);
         } else if frame.is_command(0xF9, 2) {
-            self.set(Mode::VERY_FAST, bits);
+            self.set(Mode::VeryFast, bits);
         }
     }
 }

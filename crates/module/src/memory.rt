@@ -20,7 +20,7 @@ fn cell_of(frame: &Frame) -> usize
     ensures value { result ≡ cell_number frame.now }
     ensures bound { result < 65536 }
 {
-    usize::from(frame.bytes[1]) * 256 + usize::from(frame.bytes[2])
+    usize::from(u16::from_be_bytes([frame.bytes[1], frame.bytes[2]]))
 }
 
 // The byte at a place, if there is one.
@@ -72,7 +72,7 @@ impl<const N: usize> Memory<N> {
         cells[cell..cell + 4].copy_from_slice(&[a, b, c, d]);
     }
 
-    // One cell as a frame.
+    // One cell as a frame; cells stand among other bytes here, so they are named one by one.
     fn cell_frame(&self, own: u8, frame: &Frame, cell: usize) -> Frame
         requires { (cell < N) × (cell ≡ cell_number frame.now) }
         ensures { result ≡ cell_frame own frame.now self.now.cells }

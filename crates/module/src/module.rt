@@ -9,7 +9,8 @@ use bus::{Frame, Outbox};
 use station::Edge;
 
 // A module answers each way in which an event can reach it; `own` is the address of its seat. It and the outbox stay two
-// parameters: of a struct that holds a `&mut`, each clause would have to name `.entry` and `.exit`.
+// parameters: of a struct that holds a `&mut`, each clause would have to name `.entry` and `.exit`. That the design stays is
+// one clause of each method, and a word for it would be no shorter.
 pub trait Module {
     // How its kind is designed.
     ghost design: { Self → Design };

@@ -3,7 +3,7 @@
 
 mod told;
 
-use anyhow::Context;
+use anyhow::anyhow;
 use bus::Frame;
 use house::House;
 use module::{Module, ModuleKind, Seat};
@@ -49,7 +49,8 @@ fn main(rt: HostRuntime) -> anyhow::Result<()> {
 }
 
 fn run(rt: &HostRuntime) -> anyhow::Result<()> {
-    let house = House::new(rt.alloc(), modules()).context("there is no memory for the house")?;
+    let house = House::new(rt.alloc(), modules())
+        .map_err(|_| anyhow!("there is no memory for the house"))?;
     let kinds = [(PANEL, ModuleType::Panel), (RELAY, ModuleType::Relay)];
     let kinds = BTreeMap::from_array(rt.alloc(), kinds)?;
     let mut trace = Trace::new(rt.alloc(), house, kinds);

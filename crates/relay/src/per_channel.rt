@@ -1,4 +1,5 @@
-// One value for each of the four channels.
+// One value for each of the four channels. Definitions range over every value of this type, and an array would be a list
+// of any length there.
 ghost use Rattle.std.specs.Prelude.{◌≡◌};
 ghost use Rattle.relay.specs.Channels.{paired, numbered, Each, Paired};
 

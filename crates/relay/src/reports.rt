@@ -1,4 +1,5 @@
-// What the relay tells of its channels.
+// What the relay tells of its channels. Which contacts were made before and which are now stay two parameters, since they
+// are asked for in both orders.
 ghost use Rattle.std.specs.Prelude.{◌≡◌, ◌≤◌};
 ghost use Rattle.bus.specs.Outboxes.{Room, Sends};
 ghost use Rattle.relay.specs.Reports.{made, told, statuses, differ, changes, rise, risen, switched, report, lamp, lamps};

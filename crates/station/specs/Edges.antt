@@ -6,5 +6,5 @@ use Rattle.station.specs.declared.edge.Edge.{Edge}
 use Rattle.station.specs.declared.edge.Edge.TheVariants.{Press, Release, LongPress}
 
 -- 0 is a press, 1 a release, 2 a long press; there is no other
-abbrev pub numbered : ℕ → Result Edge Refusal
-numbered n = cond (n == 0) (Ok Press) (cond (n == 1) (Ok Release) (cond (n == 2) (Ok LongPress) (Err NoSuchButton)))
+abbrev pub numbered_edge : ℕ → Result Edge Refusal
+numbered_edge n = cond (n == 0) (Ok Press) (cond (n == 1) (Ok Release) (cond (n == 2) (Ok LongPress) (Err NoSuchButton)))

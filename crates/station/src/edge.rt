@@ -1,10 +1,10 @@
 // What happens to a button.
 ghost use Rattle.std.specs.Prelude.{◌≡◌};
-ghost use Rattle.station.specs.Edges.{numbered};
+ghost use Rattle.station.specs.Edges.{numbered_edge};
 
 use bus::Refusal;
 
-#[derive(Clone, Copy, PartialEq, Eq, Debug)]
+#[derive(Clone, Copy)]
 pub enum Edge {
     Press = 0,
     Release = 1,
@@ -15,7 +15,7 @@ pub enum Edge {
 impl TryFrom<u8> for Edge {
     type Error = Refusal;
 
-    ghost try_from_gives = { λ number r. r ≡ numbered number };
+    ghost try_from_gives = { λ number r. r ≡ numbered_edge number };
 
     fn try_from(number: u8) -> Result<Self, Refusal> {
         match number {

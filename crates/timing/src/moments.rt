@@ -22,7 +22,8 @@ fn next(moves: bool, last: u8, value: u8) -> u8
 impl Clock {
     // Monday, midnight.
     pub fn new() -> Self
-        ensures { result ≡ midnight }
+        ensures time { result ≡ midnight }
+        ensures real { Real result }
     {
         Clock {
             day: 0,
@@ -34,7 +35,8 @@ impl Clock {
 
     // Sets it to a full minute; a time that does not exist leaves it as it was.
     pub fn set(&mut self, day: u8, hour: u8, minute: u8)
-        ensures { self.new ≡ set_to day hour minute self.old }
+        ensures time { self.new ≡ set_to day hour minute self.old }
+        ensures real { Real self.new }
     {
         if day < 7 && hour < 24 && minute < 60 {
             *self = Clock {
@@ -48,7 +50,8 @@ impl Clock {
 
     // A second passes.
     pub fn tick(&mut self)
-        ensures { self.new ≡ a_second_later self.old }
+        ensures time { self.new ≡ a_second_later self.old }
+        ensures real { Real self.new }
     {
         let minute_ends = self.second == 59;
         let hour_ends = minute_ends && self.minute == 59;

@@ -7,7 +7,7 @@ ghost use Rattle.trace.specs.Traces.{bus_of, called, steps, Stepped, Passed, Pas
 
 use bus::{Frame, Refusal};
 use house::House;
-use station::Station;
+use station::{Edge, Station};
 use std::alloc::Global;
 use std::collections::BTreeMap;
 use words::{Hex, InWords, ModuleType};
@@ -61,7 +61,7 @@ impl<S: Station + Drop> Trace<S> {
         self.tell_put(rt, frame, answer)
     }
 
-    // Tells what was put, and what was answered.
+    // Tells what was put, and what was answered: a refusal is printed here, and not passed on.
     fn tell_put(
         &mut self,
         rt: &HostRuntime,
@@ -93,10 +93,11 @@ impl<S: Station + Drop> Trace<S> {
     {
         let mut buffer = [Frame::default(); PLACES];
         let answer = self.house.push(address, channel, edge, &mut buffer);
-        let name = match edge {
-            0 => "press",
-            1 => "release",
-            _ => "long press",
+        let name = match Edge::try_from(edge) {
+            Ok(Edge::Press) => "press",
+            Ok(Edge::Release) => "release",
+            Ok(Edge::LongPress) => "long press",
+            Err(_) => "no edge",
         };
         println!(rt; "push  address {address:02X}, channel {channel}, edge {edge} ({name})")?;
         self.tell(rt, &buffer, answer)
@@ -179,7 +180,7 @@ impl<S: Station + Drop> Trace<S> {
         self.tell(rt, &buffer, answer)
     }
 
-    // Tells what was answered, and notes the frames that were sent.
+    // Tells what was answered, a refusal too, and prints and notes each frame that was sent.
     fn tell(
         &mut self,
         rt: &HostRuntime,

@@ -15,6 +15,16 @@ pub enum ModuleType {
 }
 
 // A frame, and which kind of module stands at the address that it bears, if that is known.
+impl fmt::Display for ModuleType {
+    fn fmt<W: fmt::Write>(&self, f: &mut fmt::Formatter<W>) -> fmt::Result {
+        f.write_str(match self {
+            ModuleType::Relay => "relay",
+            ModuleType::Panel => "panel",
+            ModuleType::Buttons => "button interface",
+        })
+    }
+}
+
 #[derive(Clone, Copy)]
 pub struct InWords {
     pub module: Option<ModuleType>,
@@ -53,13 +63,10 @@ fn subject<W: fmt::Write>(
     if is_asked(frame) {
         f.write_str("to ")?;
     }
-    let name = match module {
-        Some(ModuleType::Relay) => "relay",
-        Some(ModuleType::Panel) => "panel",
-        Some(ModuleType::Buttons) => "button interface",
-        None => "unknown module",
-    };
-    write!(f, "{name} {address:02X}: ")
+    match module {
+        Some(kind) => write!(f, "{kind} {address:02X}: "),
+        None => write!(f, "unknown module {address:02X}: "),
+    }
 }
 
 // Whether the frame asks something of the module, and does not tell of it.

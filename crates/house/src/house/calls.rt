@@ -62,7 +62,8 @@ impl<S: Station> House<S> {
         Ok(self.act(Event::Pushed(push), buffer))
     }
 
-    // A second passes for every seat.
+    // A second passes for every seat. Frames are written to the caller's buffer and their number is answered, since calls
+    // take no memory.
     pub fn second(&mut self, buffer: &mut [Frame]) -> Result<(usize, usize), Refusal>
         ensures { TakesTurn S.seats (turn_of S.seats self.old (second (length buffer.old))) (shown_counts result) self.new buffer.old buffer.new }
     {
