@@ -38,6 +38,8 @@ impl Clock {
         ensures time { self.new ≡ set_to day hour minute self.old }
         ensures real { Real self.new }
     {
+        // a proof knows that the old time is real once a field is looked at
+        let _ = &self.day;
         if day < 7 && hour < 24 && minute < 60 {
             *self = Clock {
                 day,
