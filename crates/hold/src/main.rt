@@ -38,8 +38,9 @@ fn main(rt: HostRuntime) -> anyhow::Result<()> {
 }
 
 fn run(rt: &HostRuntime) -> anyhow::Result<()> {
-    let house = House::new(rt.alloc(), modules())
-        .map_err(|_| anyhow!("there is no memory for the house"))?;
+    let house = House::new(rt.alloc(), modules()).map_err(|_| anyhow!(
+        "there is no memory for the house"
+    ))?;
     let kinds = [(PANEL, ModuleType::Panel), (INTERFACE, ModuleType::Buttons)];
     let kinds = BTreeMap::from_array(rt.alloc(), kinds)?;
     let mut trace = Trace::new(rt.alloc(), house, kinds);

@@ -4,7 +4,7 @@ ghost use Rattle.module.specs.Bits.{has_bit};
 ghost use Rattle.module.specs.Cells.{memory_cells};
 ghost use Rattle.bus.specs.Frames.{byte};
 ghost use Rattle.interface.specs.Shown.{all_held};
-ghost use Rattle.interface.specs.Links.{link_byte, link_at, bears, named, asked, by_record, by_records};
+ghost use Rattle.interface.specs.Links.{link_at, named, asked, by_record, by_records};
 
 use crate::holds::Holds;
 use crate::interface::CELLS;

@@ -1,5 +1,5 @@
 -- How the panel is designed, and what a panel remembers. Assumes nothing.
-use Rattle.std.specs.Prelude.{false, cond, ◌&&◌, List, [], ◌∷◌, ◌++◌, ◌==◌, ℕ, slice_index}
+use Rattle.std.specs.Prelude.{false, cond, List, [], ◌∷◌, ◌++◌, ℕ, slice_index}
 use Rattle.bus.specs.declared.frame.Frame.{Frame}
 use Rattle.bus.specs.Frames.{is_command, is_type_request, message}
 use Rattle.station.specs.declared.edge.Edge.{Edge}

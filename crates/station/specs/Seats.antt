@@ -1,5 +1,5 @@
 -- What a list of seats does and answers. Assumes nothing.
-use Rattle.std.specs.Prelude.{ℕ, ◌+◌, ◌*◌, min, Bool, false, cond, ◌||◌, List, [], ◌∷◌, map, length, Some, None, Option, ◌==◌, nat_lt, slice_index}
+use Rattle.std.specs.Prelude.{ℕ, ◌+◌, ◌*◌, min, Bool, false, cond, List, [], ◌∷◌, map, length, Some, None, Option, ◌==◌, nat_lt, slice_index}
 use Rattle.std.specs.List.{flat_map, list_any, find}
 use Rattle.bus.specs.declared.frame.Frame.{Frame}
 use Rattle.station.specs.declared.event.Event.{Event}

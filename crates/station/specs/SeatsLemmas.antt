@@ -1,14 +1,13 @@
 -- What holds of lists of seats, and of two of them one after the other. Assumes nothing.
-use Rattle.std.specs.Prelude.{◌≡◌, ℕ, zero, suc, ◌+◌, ◌*◌, ◌<◌, ◌≤◌, Bool, true, false, cond, ◌||◌, List, [], ◌∷◌, ◌++◌, length, Some, ◌==◌, refl}
+use Rattle.std.specs.Prelude.{◌≡◌, ℕ, zero, suc, ◌+◌, ◌*◌, ◌<◌, ◌≤◌, Bool, true, false, cond, List, [], ◌∷◌, ◌++◌, length, Some, ◌==◌, refl}
 use Rattle.std.proofs.Common.{sym, ap, ◌∙◌, add_assoc, zero-add, arith, length-append}
-use Rattle.std.specs.List.{flat_map, AllByRecursion}
+use Rattle.std.specs.List.{AllByRecursion}
 use Rattle.std.proofs.ByRecursion.{All-append}
-use Rattle.std.proofs.lemmas.List.{append_assoc}
 use Rattle.std.proofs.lemmas.Bool.{or_parts, true≢false}
 use Rattle.bus.specs.declared.frame.Frame.{Frame}
 use Rattle.station.specs.declared.event.Event.{Event}
 use Rattle.station.specs.declared.event.Event.TheVariants.{Heard, Second, Pushed}
-use Rattle.station.specs.Kinds.{Seat, hears, after, sent, outcome}
+use Rattle.station.specs.Kinds.{Seat, after, sent, outcome}
 use Rattle.station.specs.declared.addresses.Addresses.{Addresses}
 use Rattle.station.specs.Listed.{added, listed}
 use Rattle.station.specs.Rules.{Sound, Stands}
