@@ -37,6 +37,7 @@ fn main(rt: HostRuntime) -> anyhow::Result<()> {
     run(&rt)
 }
 
+// What is seated, and as what it is shown, is the program's own.
 fn run(rt: &HostRuntime) -> anyhow::Result<()> {
     let house = House::new(rt.alloc(), modules()).map_err(|_| anyhow!(
         "there is no memory for the house"

@@ -98,7 +98,7 @@ impl Interface {
         }
     }
 
-    // A frame with the own address.
+    // A frame with the own address. Here and below the module says which model it is.
     #[tactic(auto, using(bus::proofs::Outboxes::sends_both, bus::proofs::Outboxes::room_left, module::proofs::Sent::one_at_most, module::proofs::Sent::memory_sends_one))]
     pub fn command(
         &mut self,

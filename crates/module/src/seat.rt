@@ -84,6 +84,7 @@ impl<M: Module> Station for Seat<M> {
         address == self.address && self.links_to(other)
     }
 
+    // A line each for this and the next: what they answer elsewhere differs.
     fn buttons(&self, address: u8) -> u8 {
         if address == self.address {
             self.module.buttons()

@@ -54,7 +54,7 @@ fn commanded(frame: &Frame) -> Option<Action>
 }
 
 impl Channel {
-    // The channel after an action, if there is one and it is wanted here.
+    // The channel after an action, if there is one and it is wanted here. What this and the next share is `obey`.
     fn carried(mut self, action: Option<Action>, wanted: bool) -> Self
         ensures { shown result ≡ carried action wanted (shown self) }
     {

@@ -28,7 +28,7 @@ pub trait Station {
     fn list_addresses(&self, list: &mut Addresses)
         ensures { list.new ≡ listed (seats self.now) list.old };
 
-    // How many seats stand at an address: 0, 1, or 2 for more.
+    // How many seats stand at an address: 0, 1, or 2 for more. A number and no enum, since a rail adds two of them.
     fn standing(&self, address: u8) -> usize
         ensures { result ≡ standing address (seats self.now) };
 

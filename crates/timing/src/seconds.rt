@@ -49,7 +49,7 @@ impl Hold {
         }
     }
 
-    // The three bytes in the record, high byte first.
+    // The three bytes in the record, high byte first. A running time has the same two lines, in a crate that knows no hold.
     pub fn bytes(&self) -> [u8; 3]
         ensures { result ≡ held self.now / 65536 ∷ held self.now / 256 % 256 ∷ held self.now % 256 ∷ [] }
     {

@@ -151,7 +151,7 @@ impl<S: Station + Drop> Trace<S> {
         Ok(sent)
     }
 
-    // Steps until no frame is pending, 256 times at most.
+    // Steps until no frame is pending, 256 times at most; the loop has no index.
     pub fn settle(&mut self, rt: &HostRuntime) -> anyhow::Result<()>
         ensures led { Stepped (bus_of S.seats self.old.house) (bus_of S.seats self.new.house) }
         ensures quiet { OnOk result ((length (pending_of self.new.house) ≡ 0) ⊎ (bus_of S.seats self.new.house ≡ steps 256 (bus_of S.seats self.old.house))) }
