@@ -1,8 +1,8 @@
 -- The clock shows real times and keeps time. Assumes nothing.
-use Rattle.std.proofs.Common.{◌≡◌, ℕ, suc, ◌+◌, ◌%◌, ◌<◌, Bool, true, false, cond, ◌&&◌, ◌||◌, eqb, ltb, List, [], ◌∷◌, ◌++◌, sym, refl, ap, ◌∙◌, subst, inl, inr, arith}
+use Rattle.std.proofs.Common.{◌≡◌, ℕ, suc, ◌+◌, ◌%◌, ◌<◌, Bool, true, false, cond, ◌&&◌, eqb, ltb, List, [], ◌∷◌, ◌++◌, sym, refl, ap, ◌∙◌, subst, inl, inr, arith}
 use lib.Bits.{bit_and}
 use Rattle.std.specs.List.{AllByRecursion}
-use Rattle.std.proofs.lemmas.Bool.{false≢true, both_ways, cond-true, cond-false, cond_both, and_parts, and_from, and_left, or_from, lt-ltb, ltb-true, eq-eqb, eqb-true, eqb-false, ne_eqb}
+use Rattle.std.proofs.lemmas.Bool.{false≢true, both_ways, cond-true, cond-false, cond_both, and_parts, and_from, and_left, lt-ltb, ltb-true, eq-eqb, eqb-true, eqb-false, ne_eqb}
 use Rattle.bus.specs.declared.frame.Frame.{Frame}
 use Rattle.bus.specs.Frames.{byte, is_command, message}
 use Rattle.bus.proofs.Commands.{other_command}
@@ -12,17 +12,17 @@ use Rattle.station.specs.declared.event.Event.{Event}
 use Rattle.station.specs.declared.event.Event.TheVariants.{Heard, Second, Pushed}
 use Rattle.station.specs.Kinds.{Record, Outcome, from_link}
 use Rattle.station.specs.Rules.{later}
-use Rattle.module.specs.Memories.{memory_sent}
 use Rattle.module.specs.Pushes.{status_bytes}
 use Rattle.timing.specs.Times.{Time, Real, real, set_to, next, a_second_later}
-use Rattle.interface.specs.declared.model.Model.{Model}
+use Rattle.interface.specs.declared.variant.Variant.{Variant}
 use Rattle.interface.specs.declared.setup.InterfaceSetup.{InterfaceSetup}
-use Rattle.interface.specs.Interfaces.{commanded, clock_after, status_sent, type_sent, clock_sent, command_sent, after_command, after_broadcast, after_status, after_second, after_push}
+use Rattle.interface.specs.Interfaces.{commanded, clock_after, status_sent, clock_sent, command_sent, after_command, after_broadcast, after_status, after_second, after_push}
 use Rattle.interface.specs.States.{State, encoded, decoded}
 use Rattle.interface.proofs.Orderly.{Forms, all_clock, all_command, all_pushed}
 use Rattle.button_laws.specs.Clocks.{NewClockIsReal, ClockStaysReal, TellsRealTime, EveryTimeShownIsReal, second_of_week, sets, ClockKeepsTime, ClockIsSet, SetOnlyForAll, ClockIsTold}
 use Rattle.button_laws.specs.Interfaces.{interface_kind, EveryInterface, seconds, time}
 use Rattle.interface.proofs.Decoded.{told}
+use Rattle.button_laws.proofs.Replies.{no_memory, no_type}
 use Rattle.button_laws.proofs.Eight.{length-held_after, length-ticked, length-by_records}
 
 pub new_clock_is_real : NewClockIsReal
@@ -42,7 +42,7 @@ moved (Pushed p) t = t
 foreign : (t : Time) (f : Frame) → eqb f.address 0 ≡ false → clock_after t f ≡ t
 foreign t f e = cond-false (eqb f.address 0 && is_command 0xD8 4 f) _ _ (and_left (eqb f.address 0) (is_command 0xD8 4 f) e)
 
-time_moves : (m : Model) (s : InterfaceSetup) (own : ℕ) (r : Record) (e : Event) → time ((interface_kind m s).acts own r e).after ≡ moved e (time r)
+time_moves : (m : Variant) (s : InterfaceSetup) (own : ℕ) (r : Record) (e : Event) → time ((interface_kind m s).acts own r e).after ≡ moved e (time r)
 time_moves m s own r (Heard f) =
     let x = decoded r.state in
     let Is : Outcome → Type 0 = λ o. time o.after ≡ clock_after (time r) f in
@@ -109,7 +109,7 @@ told_real : (own : ℕ) (t : Time) → Real t → TellsRealTime (message 3 own (
 told_real own t h e =
     and_from (ltb t.day 7) (ltb t.hour 24 && ltb t.minute 60) (lt-ltb _ _ h.day) (and_from (ltb t.hour 24) (ltb t.minute 60) (lt-ltb _ _ h.hour) (lt-ltb _ _ h.minute))
 
-shown_real : (m : Model) (s : InterfaceSetup) (own : ℕ) (r : Record) (e : Event) → Real (time r) → AllByRecursion TellsRealTime ((interface_kind m s).acts own r e).sent
+shown_real : (m : Variant) (s : InterfaceSetup) (own : ℕ) (r : Record) (e : Event) → Real (time r) → AllByRecursion TellsRealTime ((interface_kind m s).acts own r e).sent
 shown_real m s own r (Heard f) h =
     let x = decoded r.state in
     let Q : Outcome → Type 0 = λ o. AllByRecursion TellsRealTime o.sent in
@@ -188,24 +188,14 @@ clock_is_set m s own r f e =
     ∙ cond-true (real (byte f 1) (byte f 2) (byte f 3)) _ _ both.1)
 
 -- a request for the time is no other command
-module _ (m : Model) (s : InterfaceSetup) (own : ℕ) (cells : List ℕ) (x : State) (f : Frame) (w : is_command 0xD7 1 f ≡ true) where
+module _ (m : Variant) (s : InterfaceSetup) (own : ℕ) (cells : List ℕ) (x : State) (f : Frame) (w : is_command 0xD7 1 f ≡ true) where
   only_told : clock_sent own x.clock f ≡ message 3 own (0xD8 ∷ x.clock.day ∷ x.clock.hour ∷ x.clock.minute ∷ []) ∷ []
   only_told = cond-true (is_command 0xD7 1 f) _ _ w
 
-  no_rtr : (eqb f.rtr 1 && eqb f.count 0) ≡ false
-  no_rtr =
-      let zero_rtr = (and_parts (eqb f.rtr 0) (eqb f.count 1) (and_parts (eqb (byte f 0) 0xD7) (eqb f.rtr 0 && eqb f.count 1) w).1).0 in
-      and_left (eqb f.rtr 1) (eqb f.count 0) (ap (λ b. eqb b 1) (eqb-true f.rtr 0 zero_rtr))
-
   told_on_command : command_sent m s own cells x f ≡ message 3 own (0xD8 ∷ x.clock.day ∷ x.clock.hour ∷ x.clock.minute ∷ []) ∷ []
   told_on_command =
-      let no_memory : memory_sent own cells f ≡ [] =
-      cond-false (is_command 0xFD 3 f) _ _ (other_command 0xD7 1 f w 0xFD 3 refl)
-      ∙ cond-false (is_command 0xC9 3 f || is_command 0xCA 7 f) _ _
-      (or_from (is_command 0xC9 3 f) (is_command 0xCA 7 f) (other_command 0xD7 1 f w 0xC9 3 refl) (other_command 0xD7 1 f w 0xCA 7 refl)) in
       let no_status : status_sent own x f ≡ [] = cond-false (is_command 0xFA 2 f) _ _ (other_command 0xD7 1 f w 0xFA 2 refl) in
-      let no_type : type_sent m s own f ≡ [] = cond-false (eqb f.rtr 1 && eqb f.count 0) _ _ no_rtr in
-      λ i. no_memory i ++ (no_status i ++ (no_type i ++ only_told i))
+      λ i. no_memory own 0xD7 1 f w refl refl refl cells i ++ (no_status i ++ (no_type own 0xD7 1 f w m s i ++ only_told i))
 
 pub clock_is_told : EveryInterface ClockIsTold
 clock_is_told m s own r f to w =

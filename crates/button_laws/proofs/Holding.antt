@@ -1,7 +1,7 @@
 -- Holds end in time. Assumes nothing.
-use Rattle.std.proofs.Common.{◌≡◌, ℕ, suc, ◌-◌, ◌<◌, ◌≤◌, true, ◌||◌, eqb, List, [], ◌∷◌, Some, refl, ap, ◌∙◌, inl, inr, arith}
+use Rattle.std.proofs.Common.{◌≡◌, ℕ, suc, ◌-◌, ◌<◌, ◌≤◌, true, Bool, false, cond, not, ◌||◌, eqb, ltb, leb, List, [], ◌∷◌, Some, None, Option, sym, refl, ap, ◌∙◌, subst, inl, inr, arith}
 use lib.Bits.{bit_and}
-use Rattle.std.proofs.lemmas.Bool.{cond-true, cond-false, cond_both, eqb-true, ne_eqb, cases_eq}
+use Rattle.std.proofs.lemmas.Bool.{cond-true, cond-false, cond_both, eqb-true, eq-eqb, ne_eqb, lt-ltb, ltb-true, cases_eq}
 use Rattle.bus.specs.declared.frame.Frame.{Frame}
 use Rattle.bus.specs.Frames.{byte, seconds_in, is_command}
 use Rattle.bus.proofs.Commands.{other_command}
@@ -9,20 +9,23 @@ use Rattle.station.specs.declared.event.Event.{Event}
 use Rattle.station.specs.declared.event.Event.TheVariants.{Heard, Second, Pushed}
 use Rattle.station.specs.Kinds.{Record, Outcome, from_link}
 use Rattle.station.specs.Rules.{later}
-use Rattle.module.specs.Pushes.{pressed_after}
+use Rattle.module.specs.Pushes.{pressed_after, push_sent}
 use Rattle.module.proofs.Answered.{at_own, at_link}
 use Rattle.timing.specs.declared.locking.Locking.{Locking}
-use Rattle.timing.specs.declared.locking.Locking.TheVariants.{Lock, Unlock}
+use Rattle.timing.specs.declared.locking.Locking.TheVariants.{Lock, Toggle, Unlock}
 use Rattle.timing.specs.Holds.{locked, hold_for, obeyed, ticked}
-use Rattle.interface.specs.declared.model.Model.{Model}
+use Rattle.timing.specs.TimeCodes.{stretches, by_stretch, seconds_of_code, hold_of_code}
+use Rattle.interface.specs.declared.variant.Variant.{Variant}
 use Rattle.interface.specs.declared.setup.InterfaceSetup.{InterfaceSetup}
 use Rattle.interface.specs.Channels.{hold_on, held_after}
+use Rattle.interface.specs.Links.{link_byte, lock_for, toggle_for, asked, by_records}
 use Rattle.interface.specs.Interfaces.{commanded, after_command, after_broadcast, after_status, after_second, after_push, design}
 use Rattle.interface.specs.States.{State, encoded, decoded}
-use Rattle.button_laws.specs.Holding.{names, AsksNothing, NoneAsks, Held, HoldEnds, HoldStays, LockSetsTheHold, LockEnds, UnlockFrees, SingleRecordObeyed, LockedIgnoresPushes}
+use Rattle.button_laws.specs.Holding.{names, AsksNothing, NoneAsks, Held, HoldEnds, HoldStays, LockSetsTheHold, LockEnds, UnlockFrees, InOrder, RecordsActInOrder, SingleRecordObeyed, LinkedLockEnds, LinkedUnlockFrees, LockedIgnoresPushes, SilentWhileHeld}
 use Rattle.button_laws.specs.Interfaces.{interface_kind, EveryInterface, hold, seconds}
 use Rattle.interface.proofs.Decoded.{told}
-use Rattle.button_laws.proofs.Eight.{length-held_after, length-ticked, ticked_at, held_after_keeps, named_obeys, by_records_keeps, by_records_single, length-by_records}
+use Rattle.button_laws.proofs.Eight.{length-held_after, length-ticked, ticked_at, held_after_keeps, named_obeys, length-by_records}
+use Rattle.button_laws.proofs.Records.{in_order, where_none_acts, where_one_acts}
 
 -- what an event makes of a hold that it asks nothing of
 abbrev moved : Event → ℕ → ℕ
@@ -30,7 +33,7 @@ moved (Heard f) h = h
 moved Second h = ticked h
 moved (Pushed p) h = h
 
-module _ (m : Model) (s : InterfaceSetup) (own : ℕ) (channel : ℕ) (low : 1 ≤ channel) (high : channel ≤ 8) where
+module _ (m : Variant) (s : InterfaceSetup) (own : ℕ) (channel : ℕ) (low : 1 ≤ channel) (high : channel ≤ 8) where
   -- the hold on the channel as a state with eight holds tells it
   at : (x : State) → decoded (encoded x) ≡ x → hold_on (decoded (encoded x)).holds channel ≡ hold_on x.holds channel
   at x e = ap (λ y. hold_on y.holds channel) e
@@ -46,7 +49,7 @@ module _ (m : Model) (s : InterfaceSetup) (own : ℕ) (channel : ℕ) (low : 1 �
       (λ _. at (after_broadcast x f) (told (after_broadcast x f) refl))
       (λ _. cond_both (from_link (interface_kind m s) own r f) _ _ Same
       (λ e. at (after_status m r.cells x f) (told (after_status m r.cells x f) (length-by_records m.channels r.cells f x.holds))
-      ∙ by_records_keeps channel low high m r.cells f (none.1 e) x.holds)
+      ∙ where_none_acts m r.cells f channel low high (hold r channel) (hold_on (by_records m.channels r.cells f x.holds) channel) (in_order m r.cells f channel low high x.holds refl) (none.1 e))
       (λ _. refl)))
   hold_moves r Second none =
       let x = decoded r.state in
@@ -86,7 +89,7 @@ pub hold_stays : EveryInterface HoldStays
 hold_stays m s own r channel es low high e none = stays m s own channel low high es r e none
 
 -- what a command at the own address makes of a channel that it names
-commanded_to : (m : Model) (s : InterfaceSetup) (own : ℕ) (r : Record) (f : Frame) (channel : ℕ) → 1 ≤ channel → channel ≤ 8 → f.address ≡ own → names m f channel ≡ true →
+commanded_to : (m : Variant) (s : InterfaceSetup) (own : ℕ) (r : Record) (f : Frame) (channel : ℕ) → 1 ≤ channel → channel ≤ 8 → f.address ≡ own → names m f channel ≡ true →
     (l : Locking) → commanded f ≡ Some l → hold ((interface_kind m s).acts own r (Heard f)).after channel ≡ obeyed l (hold r channel)
 commanded_to m s own r f channel low high e named l asks =
     let x = decoded r.state in
@@ -113,12 +116,78 @@ unlock_frees m s own r f channel low high e w named =
     cond-false (is_command 0x12 5 f) _ _ (other_command 0x13 2 f w 0x12 5 refl) ∙ cond-true (is_command 0x13 2 f) _ _ w in
     commanded_to m s own r f channel low high e named Unlock asks
 
-pub single_record_obeyed : EveryInterface SingleRecordObeyed
-single_record_obeyed m s own r f channel k l low high linked within acts asks others =
+pub records_act_in_order : EveryInterface RecordsActInOrder
+records_act_in_order m s own r f channel low high linked =
     let x = decoded r.state in
+    let after : hold ((interface_kind m s).acts own r (Heard f)).after channel ≡ hold_on (by_records m.channels r.cells f x.holds) channel =
     ap (λ o. hold o.after channel) (at_link (design m s) own r f linked)
-    ∙ (ap (λ y. hold_on y.holds channel) (told (after_status m r.cells x f) (length-by_records m.channels r.cells f x.holds))
-    ∙ by_records_single channel low high m r.cells f k l within acts asks others x.holds refl)
+    ∙ ap (λ y. hold_on y.holds channel) (told (after_status m r.cells x f) (length-by_records m.channels r.cells f x.holds)) in
+    subst (InOrder m r.cells f channel (hold r channel)) (sym after) (in_order m r.cells f channel low high x.holds refl)
+
+pub single_record_obeyed : EveryInterface SingleRecordObeyed
+single_record_obeyed m s own r f channel k l low high linked only asks =
+    where_one_acts m r.cells f channel low high (hold r channel) (hold ((interface_kind m s).acts own r (Heard f)).after channel)
+    (records_act_in_order m s own r f channel low high linked) k l only asks
+
+-- the time of a code, where it has one
+abbrev time_of : Option ℕ → ℕ
+time_of (Some t) = t
+time_of None = 0
+
+-- no code is as long as a hold without end
+short : (code n : ℕ) → seconds_of_code code ≡ Some n → n < 0xFFFFFF
+short code n e = subst (λ t. t < 0xFFFFFF) (ap time_of e) (bound (ltb code 252) refl)
+  where
+    none : 0 < 0xFFFFFF
+    none = omega arith
+
+    bound : (b : Bool) → ltb code 252 ≡ b → time_of (cond b (Some (by_stretch stretches code)) None) < 0xFFFFFF
+    bound false e = none
+    bound true e =
+        let small = ltb-true code 252 e in
+        let Small : ℕ → Type 0 = λ t. t < 0xFFFFFF in
+        cond_both (leb 238 code) _ _ Small (λ _. omega (arith, small))
+        (λ _. cond_both (leb 228 code) _ _ Small (λ _. omega (arith, small))
+        (λ _. cond_both (leb 212 code) _ _ Small (λ _. omega (arith, small))
+        (λ _. cond_both (leb 182 code) _ _ Small (λ _. omega (arith, small))
+        (λ _. cond_both (leb 132 code) _ _ Small (λ _. omega (arith, small))
+        (λ _. cond_both (leb 120 code) _ _ Small (λ _. omega (arith, small))
+        (λ _. cond_both (leb 0 code) _ _ Small (λ _. omega (arith, small)) (λ _. omega arith)))))))
+
+pub linked_lock_ends : EveryInterface LinkedLockEnds
+linked_lock_ends m s own r f channel k n es low high linked only locks some e none =
+    let action = link_byte r.cells k 2 in
+    let code = link_byte r.cells k 3 in
+    let less = short code n e in
+    let full : hold_for n ≡ n = omega arith in
+    let timed : hold_of_code code ≡ Some n = cond-false (eqb code 0) _ _ (ne_eqb code 0 (λ z. omega arith)) ∙ e in
+    let after = hold ((interface_kind m s).acts own r (Heard f)).after channel in
+    let obeys : (l : Locking) → asked action code ≡ Some l → after ≡ obeyed l (hold r channel) = λ l asks. single_record_obeyed m s own r f channel k l low high linked only asks in
+    let set : after ≡ n =
+    elim locks [
+      | inl three ↦ obeys (Lock n) (ap (λ a. asked a code) three ∙ ap lock_for timed) ∙ full
+      | inr four ↦ obeys (Toggle n) (ap (λ a. asked a code) four.0 ∙ ap toggle_for timed) ∙ (ap (λ h. obeyed (Toggle n) h) four.1 ∙ full)
+    ] in
+    ends m s own channel low high es ((interface_kind m s).acts own r (Heard f)).after n set less none
+
+pub linked_unlock_frees : EveryInterface LinkedUnlockFrees
+linked_unlock_frees m s own r f channel k low high linked only frees =
+    let action = link_byte r.cells k 2 in
+    let code = link_byte r.cells k 3 in
+    let after = hold ((interface_kind m s).acts own r (Heard f)).after channel in
+    let obeys : (l : Locking) → asked action code ≡ Some l → after ≡ obeyed l (hold r channel) = λ l asks. single_record_obeyed m s own r f channel k l low high linked only asks in
+    elim frees [
+      | inl five ↦ obeys Unlock (ap (λ a. asked a code) five)
+      | inr four ↦
+          let shut : locked (hold r channel) ≡ true = ap not (ne_eqb (hold r channel) 0 (λ z. omega (arith, four.1.1))) in
+          elim (cases_eq code 0) [
+            | inl zero ↦ obeys (Toggle 0xFFFFFF) (ap (λ a. asked a code) four.0 ∙ ap toggle_for (cond-true (eqb code 0) _ _ (eq-eqb code 0 zero))) ∙ cond-true (locked (hold r channel)) 0 _ shut
+            | inr some ↦
+                let n = by_stretch stretches code in
+                let timed : hold_of_code code ≡ Some n = cond-false (eqb code 0) _ _ (ne_eqb code 0 some) ∙ cond-true (ltb code 252) _ _ (lt-ltb code 252 four.1.0) in
+                obeys (Toggle n) (ap (λ a. asked a code) four.0 ∙ ap toggle_for timed) ∙ cond-true (locked (hold r channel)) 0 _ shut
+          ]
+    ]
 
 pub locked_ignores_pushes : EveryInterface LockedIgnoresPushes
 locked_ignores_pushes m s own r p e =
@@ -127,3 +196,14 @@ locked_ignores_pushes m s own r p e =
     λ i. record { lamps = x.lamps; pressed = cond-true (locked (hold r p.channel)) x.pressed (pressed_after m.buttons x.pressed p.channel p.edge) e i; holds = x.holds; clock = x.clock } in
     cond_both (eqb p.address own) _ _ (λ (o : Outcome). (decoded o.after.state ≡ x) × (o.sent ≡ []))
     (λ _. (told (after_push m x p.channel p.edge) refl ∙ same, cond-true (locked (hold r p.channel)) _ _ e)) (λ _. (refl, refl))
+
+pub silent_while_held : EveryInterface SilentWhileHeld
+silent_while_held m s own r p es low high e less none =
+    let now = later (interface_kind m s) own r es in
+    let held = hold_ends m s own r p.channel es low high less none in
+    let works = push_sent own m.buttons (decoded now.state).pressed p.channel p.edge in (
+      λ before.
+          let left = held.before before in
+          (locked_ignores_pushes m s own now p (ap not (ne_eqb (hold now p.channel) 0 (λ z. omega (arith, left, before))))).1,
+      λ over. ap (λ (o : Outcome). o.sent) (cond-true (eqb p.address own) _ _ (eq-eqb _ _ e)) ∙ cond-false (locked (hold now p.channel)) [] works (ap locked (held.over over)),
+    )

@@ -1,3 +1,6 @@
 mod Eight
+mod Records
+mod Replies
 mod Holding
+mod Statuses
 mod Clocks

@@ -5,19 +5,19 @@ use Rattle.station.specs.declared.event.Event.TheVariants.{Heard, Second, Pushed
 use Rattle.station.specs.Kinds.{Record, Kind}
 use Rattle.module.specs.Designs.{designed}
 use Rattle.timing.specs.Times.{Time}
-use Rattle.interface.specs.declared.model.Model.{Model}
+use Rattle.interface.specs.declared.variant.Variant.{Variant}
 use Rattle.interface.specs.declared.setup.InterfaceSetup.{InterfaceSetup}
 use Rattle.interface.specs.Channels.{hold_on}
 use Rattle.interface.specs.Interfaces.{design}
 use Rattle.interface.specs.States.{decoded}
 
 -- the kind of a button interface
-abbrev pub interface_kind : Model → InterfaceSetup → Kind
-interface_kind m s = designed (design m s)
+abbrev pub interface_kind : Variant → InterfaceSetup → Kind
+interface_kind v s = designed (design v s)
 
--- a law holds of each button interface, whatever its model and setup
-abbrev pub EveryInterface : (Model → Kind → Type 0) → Type 0
-EveryInterface Law = (m : Model) (s : InterfaceSetup) → Law m (interface_kind m s)
+-- a law holds of each button interface, whatever its variant and setup
+abbrev pub EveryInterface : (Variant → Kind → Type 0) → Type 0
+EveryInterface Law = (v : Variant) (s : InterfaceSetup) → Law v (interface_kind v s)
 
 -- the hold on a channel, counted from 1
 abbrev pub hold : Record → ℕ → ℕ

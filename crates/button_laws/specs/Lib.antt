@@ -1,3 +1,4 @@
 pub mod Interfaces
 pub mod Holding
+pub mod Statuses
 pub mod Clocks

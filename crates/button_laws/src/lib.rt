@@ -2,7 +2,8 @@
 #![tactic(auto)]
 
 ghost use Rattle.button_laws.specs.Clocks.{NewClockIsReal, ClockStaysReal, EveryTimeShownIsReal, ClockKeepsTime, ClockIsSet, SetOnlyForAll, ClockIsTold};
-ghost use Rattle.button_laws.specs.Holding.{HoldEnds, HoldStays, LockSetsTheHold, LockEnds, UnlockFrees, SingleRecordObeyed, LockedIgnoresPushes};
+ghost use Rattle.button_laws.specs.Holding.{HoldEnds, HoldStays, LockSetsTheHold, LockEnds, UnlockFrees, RecordsActInOrder, SingleRecordObeyed, LinkedLockEnds, LinkedUnlockFrees, LockedIgnoresPushes, SilentWhileHeld};
+ghost use Rattle.button_laws.specs.Statuses.{StatusIsTold};
 ghost use Rattle.button_laws.specs.Interfaces.{EveryInterface};
 
 // How long a channel stays locked, and what that means for its button.
@@ -10,6 +11,7 @@ pub fn hold_laws() -> u8
     ensures hold_ends { EveryInterface HoldEnds }
     ensures hold_stays { EveryInterface HoldStays }
     ensures locked_ignores_pushes { EveryInterface LockedIgnoresPushes }
+    ensures silent_while_held { EveryInterface SilentWhileHeld }
 {
     0
 }
@@ -19,7 +21,17 @@ pub fn lock_laws() -> u8
     ensures lock_sets_the_hold { EveryInterface LockSetsTheHold }
     ensures lock_ends { EveryInterface LockEnds }
     ensures unlock_frees { EveryInterface UnlockFrees }
+    ensures records_act_in_order { EveryInterface RecordsActInOrder }
     ensures single_record_obeyed { EveryInterface SingleRecordObeyed }
+    ensures linked_lock_ends { EveryInterface LinkedLockEnds }
+    ensures linked_unlock_frees { EveryInterface LinkedUnlockFrees }
+{
+    0
+}
+
+// What the status tells.
+pub fn status_laws() -> u8
+    ensures { EveryInterface StatusIsTold }
 {
     0
 }

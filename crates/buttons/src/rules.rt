@@ -1,19 +1,19 @@
 // What a button interface with eight buttons does.
 ghost use Rattle.std.specs.Prelude.{◌≡◌, replicate};
-ghost use Rattle.buttons.specs.Buttons.{model, design, content};
+ghost use Rattle.buttons.specs.Buttons.{variant, design, content};
 ghost use Rattle.interface.proofs.Orderly.{interface_orderly};
 ghost use Rattle.std.proofs.Common.{rules};
 
 use crate::buttons::ButtonInterface;
 use bus::{Frame, Outbox};
-use interface::{CELLS, Interface, InterfaceSetup, Model};
+use interface::{CELLS, Interface, InterfaceSetup, Variant};
 use module::{Module, ModuleKind};
 use station::Edge;
 
 // Every channel bit counts.
-const MODEL: Model = Model {
+const VARIANT: Variant = Variant {
     code: 0x16,
-    buttons: 8,
+    buttons: ButtonInterface::BUTTONS,
     channels: 0xFF,
 };
 
@@ -23,12 +23,12 @@ impl Module for ButtonInterface {
 
     ghost content = { content };
 
-    ghost orderly = { λ b. interface_orderly model b.setup };
+    ghost orderly = { λ b. interface_orderly variant b.setup };
 
     ghost sized = { Prim.search rules };
 
     fn command(&mut self, own: u8, frame: &Frame, out: &mut Outbox) {
-        self.interface.command(MODEL, self.setup, own, frame, out);
+        self.interface.command(VARIANT, self.setup, own, frame, out);
     }
 
     fn broadcast(&mut self, own: u8, frame: &Frame, out: &mut Outbox) {
@@ -36,7 +36,7 @@ impl Module for ButtonInterface {
     }
 
     fn status(&mut self, _own: u8, frame: &Frame, _out: &mut Outbox) {
-        self.interface.status(MODEL, frame);
+        self.interface.status(VARIANT, frame);
     }
 
     fn second(&mut self, _own: u8, _out: &mut Outbox) {
@@ -44,7 +44,7 @@ impl Module for ButtonInterface {
     }
 
     fn push(&mut self, own: u8, channel: u8, edge: Edge, out: &mut Outbox) {
-        self.interface.push(MODEL, own, channel, edge, out);
+        self.interface.push(VARIANT, own, channel, edge, out);
     }
 
     fn names(&self, _own: u8, address: u8) -> bool {
@@ -71,7 +71,7 @@ impl ModuleKind for ButtonInterface {
 
     type Setup = InterfaceSetup;
 
-    // Fresh cells; all else as at the start of the week, with no button pressed, no channel locked and the lamps out.
+    // Fresh cells, lamps out, no button pressed, no channel locked, and the clock at Monday 00:00.
     fn new(setup: InterfaceSetup) -> Self
         ensures setup { result.setup ≡ setup }
         ensures cells { (content result).cells ≡ replicate 1024 255 }

@@ -3,7 +3,7 @@ use crate::fixture::Input::{Push, Put, Second, Seconds};
 use crate::fixture::{Input, button_case, interface};
 use bus::{Frame, Outbox};
 use buttons::ButtonInterface;
-use module::{Module, ModuleKind, Seat};
+use module::Seat;
 use station::{Edge, Event, Push as Pushed, Station};
 use std::alloc::Global;
 use std::process::Abort;
@@ -82,7 +82,6 @@ fn wrong_counts(rt: HostRuntime) -> Result<(), Fail> {
             Put([3, 0x20, 0, 3, 0xFA, 0, 0, 0, 0, 0, 0, 0]),
             Put([3, 0x20, 0, 4, 0x12, 1, 0, 1, 0, 0, 0, 0]),
             Put([3, 0x20, 0, 6, 0x12, 1, 0, 0, 5, 0, 0, 0]),
-            Put([3, 0x20, 0, 1, 0x13, 0, 0, 0, 0, 0, 0, 0]),
             Put([3, 0x20, 0, 3, 0x13, 2, 0, 0, 0, 0, 0, 0]),
             Put([3, 0x20, 0, 2, 0xD7, 0, 0, 0, 0, 0, 0, 0]),
             Put([3, 0x00, 0, 2, 0xD7, 0, 0, 0, 0, 0, 0, 0]),
@@ -334,7 +333,8 @@ fn two_records_on_one_channel(rt: HostRuntime) -> Result<(), Fail> {
     )
 }
 
-// Action 4 locks a free channel and frees a locked one; it acts when the button goes down, and not when it is released.
+// Action 4 locks a free channel and frees a locked one; it acts when the button goes down, and not when it is held or
+// released.
 #[test]
 fn lock_or_unlock(rt: HostRuntime) -> Result<(), Fail> {
     button_case(
@@ -346,6 +346,8 @@ fn lock_or_unlock(rt: HostRuntime) -> Result<(), Fail> {
             cell(0x03, 2),
             cell(0x04, 0x80),
             PANEL_PRESS,
+            ASK_STATUS,
+            Push(0x30, 1, 2),
             ASK_STATUS,
             Push(0x30, 1, 1),
             ASK_STATUS,
@@ -359,6 +361,8 @@ fn lock_or_unlock(rt: HostRuntime) -> Result<(), Fail> {
         ],
         &[
             PANEL_PRESSED,
+            status(0, 0x80),
+            [0, 0x30, 0, 4, 0, 0, 0, 1, 0, 0, 0, 0],
             status(0, 0x80),
             [0, 0x30, 0, 4, 0, 0, 1, 0, 0, 0, 0, 0],
             status(0, 0x80),
@@ -393,19 +397,25 @@ fn statuses_with_other_counts(rt: HostRuntime) -> Result<(), Fail> {
     )
 }
 
-// The last record: code 251 locks for 23 h, 252 does nothing, not even where action 4 would free the channel; action 5
-// frees it, whatever its code.
+// The last record: code 251 locks, 252 and the three after it do nothing, 252 not even where action 4 would free the
+// channel; action 5 frees it, whatever its code.
 #[test]
 fn last_codes(rt: HostRuntime) -> Result<(), Fail> {
     button_case(
         &rt,
         &[
             cell(0xFA, 0x30),
-            cell(0xFB, 0x0F),
+            cell(0xFB, 0x7F),
             cell(0xFC, 3),
             cell(0xFD, 252),
             cell(0xFE, 0x10),
             PANEL_PRESS,
+            cell(0xFD, 253),
+            Push(0x30, 5, 0),
+            cell(0xFD, 254),
+            Push(0x30, 6, 0),
+            cell(0xFD, 255),
+            Push(0x30, 7, 0),
             ASK_STATUS,
             cell(0xFD, 251),
             Push(0x30, 2, 0),
@@ -420,6 +430,9 @@ fn last_codes(rt: HostRuntime) -> Result<(), Fail> {
         ],
         &[
             PANEL_PRESSED,
+            [0, 0x30, 0, 4, 0, 0x10, 0, 0, 0, 0, 0, 0],
+            [0, 0x30, 0, 4, 0, 0x20, 0, 0, 0, 0, 0, 0],
+            [0, 0x30, 0, 4, 0, 0x40, 0, 0, 0, 0, 0, 0],
             status(0, 0x00),
             [0, 0x30, 0, 4, 0, 2, 0, 0, 0, 0, 0, 0],
             status(0, 0x10),
@@ -431,7 +444,7 @@ fn last_codes(rt: HostRuntime) -> Result<(), Fail> {
     )
 }
 
-// Other actions do nothing, nor does a record with the own address.
+// Other actions do nothing, nor does a record with the own address, 00 or FF.
 #[test]
 fn records_that_do_nothing(rt: HostRuntime) -> Result<(), Fail> {
     button_case(
@@ -449,11 +462,44 @@ fn records_that_do_nothing(rt: HostRuntime) -> Result<(), Fail> {
             cell(0x0B, 0xFF),
             cell(0x0C, 3),
             cell(0x0D, 5),
+            cell(0x0F, 0x00),
+            cell(0x10, 0xFF),
+            cell(0x11, 3),
+            cell(0x12, 5),
+            cell(0x16, 3),
+            cell(0x17, 5),
             PANEL_PRESS,
             PRESS,
+            Put([0, 0x00, 0, 4, 0x00, 0xFF, 0, 0, 0, 0, 0, 0]),
+            Put([0, 0xFF, 0, 4, 0x00, 0xFF, 0, 0, 0, 0, 0, 0]),
             ASK_STATUS,
         ],
         &[PANEL_PRESSED, button([1, 0, 0]), status(0x01, 0x00)],
+    )
+}
+
+// Only the clock is asked for and set at address 0.
+#[test]
+fn broadcasts(rt: HostRuntime) -> Result<(), Fail> {
+    button_case(
+        &rt,
+        &[
+            lock(0x02, 0xFF, 0xFF, 0xFF),
+            Put([3, 0x00, 0, 5, 0x12, 0x01, 0, 0, 9, 0, 0, 0]),
+            Put([3, 0x00, 0, 2, 0x13, 0x02, 0, 0, 0, 0, 0, 0]),
+            Put([3, 0x00, 0, 2, 0xFA, 0, 0, 0, 0, 0, 0, 0]),
+            Put([3, 0x00, 1, 0, 0, 0, 0, 0, 0, 0, 0, 0]),
+            Put([3, 0x00, 0, 7, 0xCA, 0x01, 0x00, 1, 2, 3, 4, 0]),
+            Put([3, 0x00, 0, 4, 0xFC, 0x01, 0x00, 9, 0, 0, 0, 0]),
+            Put([3, 0x00, 0, 3, 0xFD, 0x01, 0x00, 0, 0, 0, 0, 0]),
+            Put([3, 0x00, 0, 3, 0xC9, 0x01, 0x00, 0, 0, 0, 0, 0]),
+            Put([3, 0x20, 0, 3, 0xC9, 0x01, 0x00, 0, 0, 0, 0, 0]),
+            ASK_STATUS,
+        ],
+        &[
+            [3, 0x20, 0, 7, 0xCC, 0x01, 0x00, 0xFF, 0xFF, 0xFF, 0xFF, 0],
+            status(0, 0x02),
+        ],
     )
 }
 
@@ -481,12 +527,13 @@ fn check_state(
 #[test]
 fn state_bytes(rt: HostRuntime) -> Result<(), Fail> {
     let heap = rt.alloc();
-    let mut seat = Seat::new(0x20, interface());
+    let mut seat = interface();
     check_state(&rt, &seat, [0; 32])?;
     let bodies = [
         [3, 0x20, 0, 4, 0xF4, 1, 2, 4, 0, 0, 0, 0],
         [3, 0x20, 0, 5, 0x12, 0x01, 1, 2, 3, 0, 0, 0],
         [3, 0x20, 0, 5, 0x12, 0x80, 0xFF, 0xFF, 0xFF, 0, 0, 0],
+        [3, 0x20, 0, 5, 0x12, 0x40, 0xFF, 0xFF, 0xFE, 0, 0, 0],
         [3, 0x00, 0, 4, 0xD8, 5, 22, 45, 0, 0, 0, 0],
     ];
     for body in bodies {
@@ -507,6 +554,9 @@ fn state_bytes(rt: HostRuntime) -> Result<(), Fail> {
     expected[4] = 1;
     expected[5] = 2;
     expected[6] = 2;
+    expected[22] = 0xFF;
+    expected[23] = 0xFF;
+    expected[24] = 0xFD;
     expected[25] = 0xFF;
     expected[26] = 0xFF;
     expected[27] = 0xFF;
@@ -517,20 +567,38 @@ fn state_bytes(rt: HostRuntime) -> Result<(), Fail> {
     check_state(&rt, &seat, expected)
 }
 
-// Lamp commands at the interface, and with a count that is off by one.
+// Code 251 locks for 23 h, which are 82,800 s or 014370.
+#[test]
+fn longest_code(rt: HostRuntime) -> Result<(), Fail> {
+    let heap = rt.alloc();
+    let mut seat = interface();
+    let bodies = [
+        [3, 0x20, 0, 7, 0xCA, 1, 0x00, 0x30, 1, 3, 251, 0],
+        [3, 0x20, 0, 4, 0xFC, 1, 0x04, 0x80, 0, 0, 0, 0],
+        [0, 0x30, 0, 4, 0, 1, 0, 0, 0, 0, 0, 0],
+    ];
+    for body in bodies {
+        act(heap, &mut seat, Event::Heard(Frame::from(body)))?;
+    }
+    let mut expected = [0; 32];
+    expected[25] = 0x01;
+    expected[26] = 0x43;
+    expected[27] = 0x70;
+    check_state(&rt, &seat, expected)
+}
+
+// Lamp commands at the interface, then some with a count that is one too large (the first of F4 one too small), and two
+// at address 0.
 #[test]
 fn lamp_bytes(rt: HostRuntime) -> Result<(), Fail> {
     let heap = rt.alloc();
-    let mut seat = Seat::new(0x20, interface());
+    let mut seat = interface();
     let bodies = [
         [3, 0x20, 0, 2, 0xF6, 0xFF, 0, 0, 0, 0, 0, 0],
         [3, 0x20, 0, 2, 0xF7, 0x0F, 0, 0, 0, 0, 0, 0],
         [3, 0x20, 0, 2, 0xF8, 0x03, 0, 0, 0, 0, 0, 0],
         [3, 0x20, 0, 2, 0xF9, 0x04, 0, 0, 0, 0, 0, 0],
         [3, 0x20, 0, 2, 0xF5, 0x88, 0, 0, 0, 0, 0, 0],
-        [3, 0x20, 0, 1, 0xF5, 0, 0, 0, 0, 0, 0, 0],
-        [3, 0x20, 0, 1, 0xF6, 0, 0, 0, 0, 0, 0, 0],
-        [3, 0x20, 0, 1, 0xF9, 0, 0, 0, 0, 0, 0, 0],
         [3, 0x20, 0, 3, 0xF5, 0xFF, 0, 0, 0, 0, 0, 0],
         [3, 0x20, 0, 3, 0xF6, 0xFF, 0, 0, 0, 0, 0, 0],
         [3, 0x20, 0, 3, 0xF7, 0xFF, 0, 0, 0, 0, 0, 0],
@@ -538,6 +606,8 @@ fn lamp_bytes(rt: HostRuntime) -> Result<(), Fail> {
         [3, 0x20, 0, 3, 0xF9, 0xFF, 0, 0, 0, 0, 0, 0],
         [3, 0x20, 0, 3, 0xF4, 1, 1, 0, 0, 0, 0, 0],
         [3, 0x20, 0, 5, 0xF4, 1, 1, 1, 0, 0, 0, 0],
+        [3, 0x00, 0, 4, 0xF4, 1, 1, 1, 0, 0, 0, 0],
+        [3, 0x00, 0, 2, 0xF6, 0xFF, 0, 0, 0, 0, 0, 0],
     ];
     for body in bodies {
         act(heap, &mut seat, Event::Heard(Frame::from(body)))?;
@@ -546,5 +616,60 @@ fn lamp_bytes(rt: HostRuntime) -> Result<(), Fail> {
     expected[0] = 0x70;
     expected[1] = 0x04;
     expected[2] = 0x07;
+    check_state(&rt, &seat, expected)
+}
+
+// Lets a frame come to the seat, which must send nothing.
+fn ignored(
+    rt: &(impl Abort + AllocGlobal),
+    seat: &mut Seat<ButtonInterface>,
+    body: [u8; 12],
+) -> Result<(), Fail> {
+    let mut outbox = Outbox::new(rt.alloc(), 9)?;
+    seat.act(Event::Heard(Frame::from(body)), &mut outbox);
+    assert_eq!(rt; outbox.frames().len(), 0);
+    Ok(())
+}
+
+// Commands with a byte past the count, so that the count is one too small for them, and last a type request with a byte
+// of data; no house lets such frames through.
+#[test]
+fn bytes_past_the_count(rt: HostRuntime) -> Result<(), Fail> {
+    let heap = rt.alloc();
+    let mut seat = interface();
+    let lamps = [3, 0x20, 0, 4, 0xF4, 0x0F, 0, 0, 0, 0, 0, 0];
+    act(heap, &mut seat, Event::Heard(Frame::from(lamps)))?;
+    let lock = [3, 0x20, 0, 5, 0x12, 0x01, 1, 2, 3, 0, 0, 0];
+    act(heap, &mut seat, Event::Heard(Frame::from(lock)))?;
+    let bodies = [
+        [3, 0x20, 0, 4, 0x12, 0x02, 1, 2, 3, 0, 0, 0],
+        [3, 0x20, 0, 1, 0x13, 0x01, 0, 0, 0, 0, 0, 0],
+        [3, 0x20, 0, 1, 0xFA, 0xFF, 0, 0, 0, 0, 0, 0],
+        [3, 0x20, 0, 0, 0xD7, 0, 0, 0, 0, 0, 0, 0],
+        [3, 0x00, 0, 0, 0xD7, 0, 0, 0, 0, 0, 0, 0],
+        [3, 0x00, 0, 3, 0xD8, 1, 2, 3, 0, 0, 0, 0],
+        [3, 0x20, 0, 3, 0xF4, 1, 2, 4, 0, 0, 0, 0],
+        [3, 0x20, 0, 1, 0xF5, 0xFF, 0, 0, 0, 0, 0, 0],
+        [3, 0x20, 0, 1, 0xF6, 0xFF, 0, 0, 0, 0, 0, 0],
+        [3, 0x20, 0, 1, 0xF7, 0xFF, 0, 0, 0, 0, 0, 0],
+        [3, 0x20, 0, 1, 0xF8, 0xFF, 0, 0, 0, 0, 0, 0],
+        [3, 0x20, 0, 1, 0xF9, 0xFF, 0, 0, 0, 0, 0, 0],
+        [3, 0x20, 0, 3, 0xFC, 0, 0x10, 1, 0, 0, 0, 0],
+        [3, 0x20, 0, 6, 0xCA, 0, 0x10, 1, 2, 3, 4, 0],
+        [3, 0x20, 0, 2, 0xFD, 0, 0x10, 0, 0, 0, 0, 0],
+        [3, 0x20, 0, 2, 0xC9, 0, 0x10, 0, 0, 0, 0, 0],
+        [3, 0x20, 1, 1, 0, 0, 0, 0, 0, 0, 0, 0],
+    ];
+    for body in bodies {
+        ignored(&rt, &mut seat, body)?;
+    }
+    for place in 0x10..0x14 {
+        assert_eq!(&rt; seat.byte(0x20, place), Some(0xFF));
+    }
+    let mut expected = [0; 32];
+    expected[0] = 0x0F;
+    expected[4] = 1;
+    expected[5] = 2;
+    expected[6] = 3;
     check_state(&rt, &seat, expected)
 }

@@ -3,7 +3,8 @@ use bus::{Frame, Refusal};
 use buttons::ButtonInterface;
 use house::House;
 use interface::{InterfaceSetup, Serial};
-use module::{Module, ModuleKind, Seat};
+use kinds::{new_button_interface, new_panel, new_relay};
+use module::Seat;
 use panel::{Panel, PanelSetup};
 use relay::{PerChannel, Relay, RelaySetup, Timers};
 use station::{Rail, Sieve, Station};
@@ -35,16 +36,16 @@ pub(crate) fn modules() -> Modules {
         },
     };
     Rail {
-        first: Seat::new(0x20, Panel::new(PanelSetup { year: 8, week: 17 })),
+        first: new_panel(0x20, PanelSetup { year: 8, week: 17 }),
         second: Sieve {
-            below: Seat::new(0x10, Relay::new(setup)),
+            below: new_relay(0x10, setup),
         },
     }
 }
 
-// With setup bytes that differ from each other.
-pub(crate) fn interface() -> ButtonInterface {
-    ButtonInterface::new(InterfaceSetup {
+// At 20, with setup bytes that differ from each other.
+pub(crate) fn interface() -> Seat<ButtonInterface> {
+    let setup = InterfaceSetup {
         serial: Serial {
             high: 0x12,
             low: 0x34,
@@ -52,13 +53,14 @@ pub(crate) fn interface() -> ButtonInterface {
         map: 2,
         year: 11,
         week: 22,
-    })
+    };
+    new_button_interface(0x20, setup)
 }
 
 pub(crate) fn buttons() -> Buttons {
     Rail {
-        first: Seat::new(0x30, Panel::new(PanelSetup { year: 8, week: 17 })),
-        second: Seat::new(0x20, interface()),
+        first: new_panel(0x30, PanelSetup { year: 8, week: 17 }),
+        second: interface(),
     }
 }
 

@@ -6,7 +6,8 @@ use bus::Frame;
 use buttons::ButtonInterface;
 use house::House;
 use interface::{InterfaceSetup, Serial};
-use module::{Module, ModuleKind, Seat};
+use kinds::{new_button_interface, new_panel};
+use module::Seat;
 use panel::{Panel, PanelSetup};
 use station::{Edge, Rail};
 use std::collections::BTreeMap;
@@ -20,16 +21,15 @@ const INTERFACE: u8 = 0x20;
 type Modules = Rail<Seat<Panel>, Seat<ButtonInterface>>;
 
 fn modules() -> Modules {
-    let panel = Panel::new(PanelSetup { year: 1, week: 1 });
-    let interface = ButtonInterface::new(InterfaceSetup {
+    let setup = InterfaceSetup {
         serial: Serial { high: 1, low: 1 },
         map: 1,
         year: 1,
         week: 1,
-    });
+    };
     Rail {
-        first: Seat::new(PANEL, panel),
-        second: Seat::new(INTERFACE, interface),
+        first: new_panel(PANEL, PanelSetup { year: 1, week: 1 }),
+        second: new_button_interface(INTERFACE, setup),
     }
 }
 

@@ -12,7 +12,7 @@ use Rattle.module.specs.Pushes.{bit, accepted, status_bytes, push_sent}
 use Rattle.module.proofs.Sent.{one_at_most, memory_sends_one, all_one, all_memory}
 use Rattle.timing.specs.Holds.{locked}
 use Rattle.timing.specs.Times.{Time}
-use Rattle.interface.specs.declared.model.Model.{Model}
+use Rattle.interface.specs.declared.variant.Variant.{Variant}
 use Rattle.interface.specs.declared.setup.InterfaceSetup.{InterfaceSetup}
 use Rattle.interface.specs.Channels.{hold_on, locked_bits}
 use Rattle.interface.specs.Interfaces.{status_sent, type_sent, clock_sent, command_sent, pushed_sent, setup_bytes, design}
@@ -26,7 +26,7 @@ pub record Forms (P : Frame → Type 0) (own : ℕ) : Type 0 where
   pub type : (code a b c d e : ℕ) → P (message 3 own (0xFF ∷ code ∷ a ∷ b ∷ c ∷ d ∷ e ∷ []))
   pub button : (edge : Edge) (b : ℕ) → P (message 0 own (status_bytes edge b))
 
-module _ (P : Frame → Type 0) (m : Model) (s : InterfaceSetup) (own : ℕ) (t : Forms P own) where
+module _ (P : Frame → Type 0) (m : Variant) (s : InterfaceSetup) (own : ℕ) (t : Forms P own) where
   pub all_clock : (x : Time) (f : Frame) → P (message 3 own (0xD8 ∷ x.day ∷ x.hour ∷ x.minute ∷ [])) → AllByRecursion P (clock_sent own x f)
   all_clock x f p = all_one P (is_command 0xD7 1 f) _ p
 
@@ -53,7 +53,7 @@ own_forms : (own : ℕ) → Forms (Bears own) own
 own_forms own =
     record { cell = λ h l b. inl refl; block = λ h l a b c d. inl refl; status = λ a b. inl refl; type = λ code a b c d e. inl refl; button = λ edge b. inl refl }
 
-four_sent : (m : Model) (s : InterfaceSetup) (own : ℕ) (cells : List ℕ) (x : State) (f : Frame) → length (command_sent m s own cells x f) ≤ 4
+four_sent : (m : Variant) (s : InterfaceSetup) (own : ℕ) (cells : List ℕ) (x : State) (f : Frame) → length (command_sent m s own cells x f) ≤ 4
 four_sent m s own cells x f =
     let told = status_sent own x f in
     let typed = type_sent m s own f in
@@ -69,7 +69,7 @@ four_sent m s own cells x f =
       one_at_most (is_command 0xD7 1 f) (message 3 own (0xD8 ∷ x.clock.day ∷ x.clock.hour ∷ x.clock.minute ∷ [])),
     )
 
-pub interface_orderly : (m : Model) (s : InterfaceSetup) → Orderly (design m s)
+pub interface_orderly : (m : Variant) (s : InterfaceSetup) → Orderly (design m s)
 interface_orderly m s =
     record {
       small = omega arith;

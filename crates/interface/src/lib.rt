@@ -7,11 +7,11 @@ mod interface;
 mod link;
 mod links;
 mod locks;
-mod model;
 mod rules;
 mod setup;
+mod variant;
 
 pub use holds::Holds;
 pub use interface::{CELLS, Interface};
-pub use model::Model;
 pub use setup::{InterfaceSetup, Serial};
+pub use variant::Variant;

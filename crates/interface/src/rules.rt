@@ -10,8 +10,8 @@ ghost use Rattle.interface.specs.States.{state_of, cells_of};
 use crate::holds::Holds;
 use crate::interface::Interface;
 use crate::links::{names, obey_links};
-use crate::model::Model;
 use crate::setup::{InterfaceSetup, Serial};
+use crate::variant::Variant;
 use bus::{Frame, Outbox};
 use module::{Buttons, Lamps, Memory};
 use station::Edge;
@@ -34,9 +34,9 @@ fn commanded(frame: &Frame) -> Option<Locking>
 }
 
 // Answers a type request.
-fn answer_type(model: Model, setup: InterfaceSetup, own: u8, frame: &Frame, out: &mut Outbox)
+fn answer_type(variant: Variant, setup: InterfaceSetup, own: u8, frame: &Frame, out: &mut Outbox)
     requires { Room out.old 1 }
-    ensures { Sends out.old out.new (type_sent model setup own frame.now) }
+    ensures { Sends out.old out.new (type_sent variant setup own frame.now) }
 {
     if frame.is_type_request() {
         let InterfaceSetup {
@@ -45,7 +45,7 @@ fn answer_type(model: Model, setup: InterfaceSetup, own: u8, frame: &Frame, out:
             year,
             week,
         } = setup;
-        let bytes = [0xFF, model.code, high, low, map, year, week, 0];
+        let bytes = [0xFF, variant.code, high, low, map, year, week, 0];
         out.send(Frame::new(3, own, 7, bytes));
     }
 }
@@ -98,11 +98,11 @@ impl Interface {
         }
     }
 
-    // A frame with the own address. Here and below the module says which model it is.
+    // A frame with the own address. The variant, here and below, is that of the module which this is a part of.
     #[tactic(auto, using(bus::proofs::Outboxes::sends_both, bus::proofs::Outboxes::room_left, module::proofs::Sent::one_at_most, module::proofs::Sent::memory_sends_one))]
     pub fn command(
         &mut self,
-        model: Model,
+        variant: Variant,
         setup: InterfaceSetup,
         own: u8,
         frame: &Frame,
@@ -110,16 +110,16 @@ impl Interface {
     )
         requires { Room out.old 4 }
         ensures cells { cells_of self.new ≡ stored (cells_of self.old) frame.now }
-        ensures state { state_of self.new ≡ after_command model (state_of self.old) frame.now }
-        ensures sent { Sends out.old out.new (command_sent model setup own (cells_of self.old) (state_of self.old) frame.now) }
+        ensures state { state_of self.new ≡ after_command variant (state_of self.old) frame.now }
+        ensures sent { Sends out.old out.new (command_sent variant setup own (cells_of self.old) (state_of self.old) frame.now) }
     {
         self.memory.obey(own, frame, out);
         self.answer_status(own, frame, out);
-        answer_type(model, setup, own, frame, out);
+        answer_type(variant, setup, own, frame, out);
         answer_clock(&self.clock, own, frame, out);
         self.lamps.obey(frame);
         self.holds
-            .obey(commanded(frame), frame.bytes[1] & model.channels);
+            .obey(commanded(frame), frame.bytes[1] & variant.channels);
         set_clock(&mut self.clock, frame);
     }
 
@@ -135,11 +135,11 @@ impl Interface {
     }
 
     // A button status from a linked address.
-    pub fn status(&mut self, model: Model, frame: &Frame)
+    pub fn status(&mut self, variant: Variant, frame: &Frame)
         ensures cells { cells_of self.new ≡ cells_of self.old }
-        ensures state { state_of self.new ≡ after_status model (cells_of self.old) (state_of self.old) frame.now }
+        ensures state { state_of self.new ≡ after_status variant (cells_of self.old) (state_of self.old) frame.now }
     {
-        obey_links(&self.memory, frame, model.channels, &mut self.holds);
+        obey_links(&self.memory, frame, variant.channels, &mut self.holds);
     }
 
     // A second that passes.
@@ -152,14 +152,14 @@ impl Interface {
     }
 
     // An edge at a channel; a locked one ignores it.
-    pub fn push(&mut self, model: Model, own: u8, channel: u8, edge: Edge, out: &mut Outbox)
+    pub fn push(&mut self, variant: Variant, own: u8, channel: u8, edge: Edge, out: &mut Outbox)
         requires { Room out.old 1 }
         ensures cells { cells_of self.new ≡ cells_of self.old }
-        ensures state { state_of self.new ≡ after_push model (state_of self.old) channel edge }
-        ensures sent { Sends out.old out.new (pushed_sent model own (state_of self.old) channel edge) }
+        ensures state { state_of self.new ≡ after_push variant (state_of self.old) channel edge }
+        ensures sent { Sends out.old out.new (pushed_sent variant own (state_of self.old) channel edge) }
     {
         if !self.holds.is_locked(channel) {
-            self.buttons.push(own, model.buttons, channel, edge, out);
+            self.buttons.push(own, variant.buttons, channel, edge, out);
         }
     }
 

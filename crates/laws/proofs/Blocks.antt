@@ -11,7 +11,7 @@ use Rattle.relay.specs.Relays.{contacts, commanded, named_channels, carried_out}
 use Rattle.relay.specs.Relays.{design as relay_design}
 use Rattle.relay.proofs.Decoded.{decoded}
 use Rattle.laws.specs.Blocks.{block, BlockWritten, TakesBlockWrites, BlockWritesKeepChannels}
-use Rattle.laws.specs.Kinds.{EveryRelay, EveryModule}
+use Rattle.kinds.specs.Kinds.{EveryRelay, EveryModule}
 use Rattle.module.proofs.Answered.{at_own}
 use Rattle.laws.proofs.Cells.{four, four-put}
 use Rattle.laws.proofs.Commands.{MemoryOnly, ByMemory, memory_only, every_by_memory}

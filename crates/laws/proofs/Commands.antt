@@ -14,7 +14,7 @@ use Rattle.interface.specs.declared.setup.InterfaceSetup.{InterfaceSetup}
 use Rattle.interface.specs.Interfaces.{clock_sent}
 use Rattle.interface.specs.Interfaces.{status_sent as interface_status, type_sent as interface_type}
 use Rattle.interface.specs.States.{decoded}
-use Rattle.buttons.specs.Buttons.{model}
+use Rattle.buttons.specs.Buttons.{variant}
 use Rattle.buttons.specs.Buttons.{design as buttons_design}
 use Rattle.panel.specs.Panels.{lamps, pressed, status_sent, type_sent}
 use Rattle.panel.specs.Panels.{design as panel_design}
@@ -24,7 +24,7 @@ use Rattle.relay.specs.Contacts.{Contact}
 use Rattle.relay.specs.Relays.{contacts, commanded, named_channels, carried_out, answer}
 use Rattle.relay.specs.Relays.{design as relay_design}
 use Rattle.relay.specs.Reports.{made, told, statuses, differ, changes, rise, risen, switched, report}
-use Rattle.laws.specs.Kinds.{EveryModule}
+use Rattle.kinds.specs.Kinds.{EveryModule}
 
 -- a frame that asks for no status, no type and no time, and names no channel
 pub record MemoryOnly (f : Frame) : Type 0 where
@@ -96,8 +96,8 @@ buttons_by_memory s =
     record {
       sends = λ own r f m.
           let x = decoded r.state in
-          let quiet : interface_status own x f ++ (interface_type model s own f ++ clock_sent own x.clock f) ≡ [] =
-          ap (λ t. t ++ (interface_type model s own f ++ clock_sent own x.clock f)) (cond-false (is_command 0xFA 2 f) _ _ m.no_status)
+          let quiet : interface_status own x f ++ (interface_type variant s own f ++ clock_sent own x.clock f) ≡ [] =
+          ap (λ t. t ++ (interface_type variant s own f ++ clock_sent own x.clock f)) (cond-false (is_command 0xFA 2 f) _ _ m.no_status)
           ∙ (ap (λ t. t ++ clock_sent own x.clock f) (cond-false (eqb f.rtr 1 && eqb f.count 0) _ _ (and_left (eqb f.rtr 1) (eqb f.count 0) m.no_type))
           ∙ cond-false (is_command 0xD7 1 f) _ _ m.no_time) in
           ap (λ t. memory_sent own r.cells f ++ t) quiet ∙ append-nil (memory_sent own r.cells f);

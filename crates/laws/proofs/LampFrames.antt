@@ -8,7 +8,7 @@ use Rattle.station.specs.Kinds.{Record, from_link}
 use Rattle.relay.specs.declared.relay.RelaySetup.{RelaySetup}
 use Rattle.relay.specs.Relays.{design as relay_design}
 use Rattle.relay.specs.AllSent.{Forms, Lamps, all_command, all_status, all_second}
-use Rattle.laws.specs.Kinds.{relay_kind, EveryRelay}
+use Rattle.kinds.specs.Kinds.{relay_kind, EveryRelay}
 use Rattle.laws.specs.LampFrames.{LampOfLink, LampsOnlyToLinks, ElseFromOwnAddress}
 use Rattle.module.proofs.Answered.{at_own, link_address, all_heard, all_pushed}
 

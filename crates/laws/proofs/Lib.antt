@@ -6,4 +6,6 @@ mod Commands
 mod Cells
 mod Blocks
 mod MemoryReads
+mod Pushing
+mod LampModes
 mod WorkedLines

@@ -9,7 +9,7 @@ use Rattle.station.specs.Kinds.{Record}
 use Rattle.station.specs.Rules.{cell, payload, put, stored}
 use Rattle.module.specs.Designs.{Design, answered, designed}
 use Rattle.module.specs.Memories.{cell_frame, block_frame, in_memory, memory_sent}
-use Rattle.laws.specs.Kinds.{EveryModule}
+use Rattle.kinds.specs.Kinds.{EveryModule}
 use Rattle.laws.specs.Blocks.{block}
 use Rattle.laws.specs.MemoryReads.{CellsRead, AnswersReads, ReadsBack}
 use Rattle.module.proofs.Answered.{at_own}

@@ -12,7 +12,7 @@ use Rattle.module.specs.Searches.{first}
 use Rattle.relay.specs.Tables.{matches, first_pair}
 use Rattle.relay.proofs.Decoded.{decoded}
 use Rattle.laws.specs.Channels.{ChannelNumber, channel_1, channel_2, channel_3, channel_4, index, of_channel}
-use Rattle.laws.specs.Kinds.{relay_kind}
+use Rattle.kinds.specs.Kinds.{relay_kind}
 use Rattle.laws.specs.Pairs.{FirstMatch, NoMatch, FirstPairFound, NoPairFound, FirstMatchObeyed, NoMatchKept}
 use Rattle.module.proofs.Answered.{at_link}
 

@@ -15,7 +15,7 @@ use Rattle.interface.specs.declared.setup.InterfaceSetup.{InterfaceSetup}
 use Rattle.interface.specs.States.{decoded}
 use Rattle.interface.proofs.Orderly.{all_clock}
 use Rattle.interface.proofs.Orderly.{Forms as InterfaceForms, all_command as interface_command, all_pushed as interface_pushed}
-use Rattle.buttons.specs.Buttons.{model}
+use Rattle.buttons.specs.Buttons.{variant}
 use Rattle.buttons.specs.Buttons.{design as buttons_design}
 use Rattle.panel.specs.declared.panel.PanelSetup.{PanelSetup}
 use Rattle.panel.specs.Panels.{lamps, pressed, status_sent, type_sent}
@@ -23,7 +23,7 @@ use Rattle.panel.specs.Panels.{design as panel_design}
 use Rattle.relay.specs.declared.relay.RelaySetup.{RelaySetup}
 use Rattle.relay.specs.Relays.{design as relay_design}
 use Rattle.relay.specs.AllSent.{Forms, Lamps, all_command, all_status, all_second}
-use Rattle.laws.specs.Kinds.{relay_kind, panel_kind, buttons_kind, EveryModule}
+use Rattle.kinds.specs.Kinds.{relay_kind, panel_kind, buttons_kind, EveryModule}
 use Rattle.laws.specs.Sending.{SendsOnly, WellFormed, NoWrite}
 use Rattle.module.proofs.Answered.{all_heard, all_pushed}
 
@@ -62,10 +62,10 @@ module _ (P : Frame → Type 0) where
   all_buttons s t clock own r (Heard f) =
       let x = decoded r.state in
       let time = clock own x.clock.day x.clock.hour x.clock.minute in
-      all_heard (buttons_design s) own r P f (interface_command P model s own (t own) r.cells x f time) (all_clock P model s own (t own) x.clock f time) (λ _. tt)
+      all_heard (buttons_design s) own r P f (interface_command P variant s own (t own) r.cells x f time) (all_clock P variant s own (t own) x.clock f time) (λ _. tt)
   all_buttons s t clock own r Second = tt
   all_buttons s t clock own r (Pushed p) =
-      all_pushed (buttons_design s) own r P p (interface_pushed P model s own (t own) (decoded r.state) p.channel p.edge)
+      all_pushed (buttons_design s) own r P p (interface_pushed P variant s own (t own) (decoded r.state) p.channel p.edge)
 
 -- the frame is well formed, and no write
 abbrev Sound : Frame → Type 0

@@ -10,7 +10,7 @@ use Rattle.relay.specs.Contacts.{Contact, opened, running, ticked}
 use Rattle.relay.specs.Relays.{contacts, all_ticked, second}
 use Rattle.relay.proofs.Decoded.{decoded}
 use Rattle.laws.specs.Channels.{ChannelNumber, channel_1, channel_2, channel_3, channel_4, of_channel}
-use Rattle.laws.specs.Kinds.{relay_kind, EveryRelay}
+use Rattle.kinds.specs.Kinds.{relay_kind, EveryRelay}
 use Rattle.laws.specs.Times.{ticked_for, Ran, TimeEnds, ChannelTimeEnds}
 
 stays_open : (k : ℕ) → ticked_for k opened ≡ opened

@@ -1,4 +1,3 @@
-pub mod Kinds
 pub mod Channels
 pub mod Sending
 pub mod Pairs
@@ -6,4 +5,6 @@ pub mod LampFrames
 pub mod Times
 pub mod Blocks
 pub mod MemoryReads
+pub mod Pushing
+pub mod LampModes
 pub mod WorkedLines

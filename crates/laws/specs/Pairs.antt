@@ -9,7 +9,7 @@ use Rattle.relay.specs.Contacts.{obeyed}
 use Rattle.relay.specs.Relays.{contacts, query}
 use Rattle.relay.specs.Tables.{matches, first_pair, action_of}
 use Rattle.laws.specs.Channels.{ChannelNumber, index, of_channel}
-use Rattle.laws.specs.Kinds.{relay_kind}
+use Rattle.kinds.specs.Kinds.{relay_kind}
 
 -- p is a pair of the channel that matches the query, and none before it does
 pub record FirstMatch (cells : List ℕ) (c : ℕ) (s : Query) (p : ℕ) : Type 0 where

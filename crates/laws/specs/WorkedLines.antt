@@ -8,7 +8,7 @@ use Rattle.station.specs.Rules.{put}
 use Rattle.timing.specs.TimeCodes.{seconds_of_code}
 use Rattle.panel.specs.declared.panel.PanelSetup.{PanelSetup}
 use Rattle.relay.specs.declared.relay.RelaySetup.{RelaySetup}
-use Rattle.laws.specs.Kinds.{relay_kind, panel_kind}
+use Rattle.kinds.specs.Kinds.{relay_kind, panel_kind}
 
 -- the write of four bytes from a cell on
 abbrev pub block_write : ℕ → ℕ → List ℕ → Frame
@@ -37,12 +37,12 @@ pub data Line : Type 0 where
   not_panel : (cell : ℕ) → Line
 
 -- what a line claims
-abbrev pub Holds : Line → Type 0
-Holds (code n s) = seconds_of_code n ≡ Some s
-Holds (fits_relay cell) = (s : RelaySetup) → Fits (relay_kind s) cell
-Holds (fits_panel cell) = (s : PanelSetup) → Fits (panel_kind s) cell
-Holds (not_relay cell) = (s : RelaySetup) → DoesNotFit (relay_kind s) cell
-Holds (not_panel cell) = (s : PanelSetup) → DoesNotFit (panel_kind s) cell
+abbrev pub Claim : Line → Type 0
+Claim (code n s) = seconds_of_code n ≡ Some s
+Claim (fits_relay cell) = (s : RelaySetup) → Fits (relay_kind s) cell
+Claim (fits_panel cell) = (s : PanelSetup) → Fits (panel_kind s) cell
+Claim (not_relay cell) = (s : RelaySetup) → DoesNotFit (relay_kind s) cell
+Claim (not_panel cell) = (s : PanelSetup) → DoesNotFit (panel_kind s) cell
 
 abbrev pub worked_lines : List Line
 worked_lines =

@@ -3,13 +3,15 @@
 
 ghost use Rattle.std.specs.List.{AllByRecursion};
 ghost use Rattle.laws.specs.Blocks.{TakesBlockWrites, BlockWritesKeepChannels};
-ghost use Rattle.laws.specs.Kinds.{EveryRelay, EveryModule};
+ghost use Rattle.kinds.specs.Kinds.{EveryRelay, EveryModule};
 ghost use Rattle.laws.specs.LampFrames.{LampsOnlyToLinks, ElseFromOwnAddress};
+ghost use Rattle.laws.specs.LampModes.{LampsFollow, LampsAreSet, EveryLamp};
 ghost use Rattle.laws.specs.MemoryReads.{AnswersReads, ReadsBack};
 ghost use Rattle.laws.specs.Pairs.{FirstPairFound, NoPairFound, FirstMatchObeyed, NoMatchKept};
+ghost use Rattle.laws.specs.Pushing.{PushMoves, PushIgnored, EveryButton};
 ghost use Rattle.laws.specs.Sending.{SendsOnly, WellFormed, NoWrite};
 ghost use Rattle.laws.specs.Times.{TimeEnds, ChannelTimeEnds};
-ghost use Rattle.laws.specs.WorkedLines.{worked_lines, Holds};
+ghost use Rattle.laws.specs.WorkedLines.{worked_lines, Claim};
 
 // All frames sent are well formed, and none is a write.
 pub fn sending_laws() -> u8
@@ -62,9 +64,25 @@ pub fn read_laws() -> u8
     0
 }
 
+// What a push does to the buttons.
+pub fn push_laws() -> u8
+    ensures push_moves { EveryButton PushMoves }
+    ensures push_ignored { EveryButton PushIgnored }
+{
+    0
+}
+
+// What the lamp commands do to each lamp.
+pub fn mode_laws() -> u8
+    ensures lamps_follow { EveryLamp LampsFollow }
+    ensures lamps_are_set { EveryLamp LampsAreSet }
+{
+    0
+}
+
 // Examples worked out by hand: what the definitions say of them.
 pub fn worked_lines() -> u8
-    ensures { AllByRecursion Holds worked_lines }
+    ensures { AllByRecursion Claim worked_lines }
 {
     0
 }

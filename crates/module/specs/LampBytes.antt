@@ -3,8 +3,8 @@ use Rattle.std.specs.Prelude.{ℕ, ◌-◌, Bool, true, false, cond, bit_and, bi
 use Rattle.bus.specs.declared.frame.Frame.{Frame}
 use Rattle.bus.specs.Frames.{byte, is_command}
 use Rattle.module.specs.declared.lamps.Lamps.{Lamps}
-use Rattle.module.specs.declared.lamps.Mode.{Mode}
-use Rattle.module.specs.declared.lamps.Mode.TheVariants.{Out, On, Slow, Fast, VeryFast}
+use Rattle.module.specs.declared.lamps.LampMode.{LampMode}
+use Rattle.module.specs.declared.lamps.LampMode.TheVariants.{Out, On, Slow, Fast, VeryFast}
 
 -- a byte with the named bits set, or cleared
 abbrev pub marked : Bool → ℕ → ℕ → ℕ
@@ -15,7 +15,7 @@ abbrev pub in_mode : Bool → Bool → Bool → Lamps → ℕ → Lamps
 in_mode on slow fast l bits = record { on = marked on l.on bits; slow = marked slow l.slow bits; fast = marked fast l.fast bits }
 
 -- the named lamps in each of the modes; very fast is slow and fast together
-abbrev pub put_in : Mode → Lamps → ℕ → Lamps
+abbrev pub put_in : LampMode → Lamps → ℕ → Lamps
 put_in Out l bits = in_mode false false false l bits
 put_in On l bits = in_mode true false false l bits
 put_in Slow l bits = in_mode false true false l bits

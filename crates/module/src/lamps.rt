@@ -14,7 +14,7 @@ pub struct Lamps {
 
 // How a lamp shines.
 #[derive(Clone, Copy)]
-enum Mode {
+pub enum LampMode {
     Out,
     On,
     Slow,
@@ -42,12 +42,20 @@ impl Lamps {
     }
 
     // Puts the named lamps in one mode.
-    fn set(&mut self, mode: Mode, bits: u8)
+    fn set(&mut self, mode: LampMode, bits: u8)
         ensures { self.new ≡ put_in mode self.old bits }
     {
-        self.on = mark(matches!(mode, Mode::On), self.on, bits);
-        self.slow = mark(matches!(mode, Mode::Slow | Mode::VeryFast), self.slow, bits);
-        self.fast = mark(matches!(mode, Mode::Fast | Mode::VeryFast), self.fast, bits);
+        self.on = mark(matches!(mode, LampMode::On), self.on, bits);
+        self.slow = mark(
+            matches!(mode, LampMode::Slow | LampMode::VeryFast),
+            self.slow,
+            bits,
+        );
+        self.fast = mark(
+            matches!(mode, LampMode::Fast | LampMode::VeryFast),
+            self.fast,
+            bits,
+        );
     }
 
     // Obeys a lamp command; any other frame does nothing here.
@@ -60,15 +68,15 @@ impl Lamps {
             self.slow = frame.bytes[2];
             self.fast = frame.bytes[3];
         } else if frame.is_command(0xF5, 2) {
-            self.set(Mode::Out, bits);
+            self.set(LampMode::Out, bits);
         } else if frame.is_command(0xF6, 2) {
-            self.set(Mode::On, bits);
+            self.set(LampMode::On, bits);
         } else if frame.is_command(0xF7, 2) {
-            self.set(Mode::Slow, bits);
+            self.set(LampMode::Slow, bits);
         } else if frame.is_command(0xF8, 2) {
-            self.set(Mode::Fast, bits);
+            self.set(LampMode::Fast, bits);
         } else if frame.is_command(0xF9, 2) {
-            self.set(Mode::VeryFast, bits);
+            self.set(LampMode::VeryFast, bits);
         }
     }
 }

@@ -9,7 +9,7 @@ mod module;
 mod seat;
 
 pub use buttons::Buttons;
-pub use lamps::Lamps;
+pub use lamps::{LampMode, Lamps};
 pub use memory::{Memory, byte_at};
 pub use module::{Module, ModuleKind};
 pub use seat::Seat;

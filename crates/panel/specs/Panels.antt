@@ -33,7 +33,7 @@ abbrev pub type_sent : ℕ → PanelSetup → Lamps → Frame → List Frame
 type_sent own s l f =
     cond (is_type_request f) (message 3 own (0xFF ∷ 0x0B ∷ l.on ∷ l.slow ∷ l.fast ∷ s.year ∷ s.week ∷ 0 ∷ []) ∷ []) []
 
--- a frame with the own address; each kind of command does its part, and no two know the same frame
+-- a frame with the own address; each part obeys its own commands, and no frame is a command of two
 abbrev pub command : PanelSetup → ℕ → Record → Frame → Outcome
 command s own r f =
     record {

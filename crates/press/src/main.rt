@@ -6,7 +6,8 @@ mod told;
 use anyhow::anyhow;
 use bus::Frame;
 use house::House;
-use module::{Module, ModuleKind, Seat};
+use kinds::{new_panel, new_relay};
+use module::Seat;
 use panel::{Panel, PanelSetup};
 use relay::{PerChannel, Relay, RelaySetup, Timers};
 use station::{Edge, Rail, Sieve};
@@ -35,11 +36,10 @@ fn modules() -> Modules {
             four: timers,
         },
     };
-    let panel = Panel::new(PanelSetup { year: 1, week: 1 });
     Rail {
-        first: Seat::new(PANEL, panel),
+        first: new_panel(PANEL, PanelSetup { year: 1, week: 1 }),
         second: Sieve {
-            below: Seat::new(RELAY, Relay::new(setup)),
+            below: new_relay(RELAY, setup),
         },
     }
 }

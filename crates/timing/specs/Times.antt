@@ -8,7 +8,7 @@ pub record Time : Type 0 where
   pub minute : ℕ
   pub second : ℕ
 
--- a day of the week and a time of the day
+-- whether three numbers are a day of the week and a time of the day
 abbrev pub real : ℕ → ℕ → ℕ → Bool
 real day hour minute = nat_lt day 7 && (nat_lt hour 24 && nat_lt minute 60)
 

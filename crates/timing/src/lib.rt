@@ -2,11 +2,11 @@
 #![tactic(auto)]
 
 mod clock;
+mod clock_changes;
 mod codes;
 mod hold;
+mod hold_changes;
 mod locking;
-mod moments;
-mod seconds;
 
 pub use clock::Clock;
 pub use codes::{hold_of_code, seconds_of_code};

@@ -14,7 +14,6 @@ pub enum ModuleType {
     Buttons,
 }
 
-// A frame, and which kind of module stands at the address that it bears, if that is known.
 impl fmt::Display for ModuleType {
     fn fmt<W: fmt::Write>(&self, f: &mut fmt::Formatter<W>) -> fmt::Result {
         f.write_str(match self {
@@ -25,6 +24,7 @@ impl fmt::Display for ModuleType {
     }
 }
 
+// A frame, and which kind of module stands at the address that it bears, if that is known.
 #[derive(Clone, Copy)]
 pub struct InWords {
     pub module: Option<ModuleType>,

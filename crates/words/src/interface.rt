@@ -25,6 +25,7 @@ pub(crate) fn interface<W: fmt::Write>(frame: &Frame, f: &mut fmt::Formatter<W>)
 // How long to lock channels.
 fn lock<W: fmt::Write>(channels: Numbers, time: u32, f: &mut fmt::Formatter<W>) -> fmt::Result {
     match time {
+        0 => write!(f, "lock channels {channels} for 0 s, which does nothing"),
         0xFFFFFF => write!(f, "lock channels {channels} until unlocked"),
         _ => write!(f, "lock channels {channels} for {time} s"),
     }

@@ -1,8 +1,8 @@
 // What tells one kind of button interface from another.
 
-// Its type code, how many buttons it has, and which channel bits count in locking.
+// The type code, how many buttons there are, and which channel bits count in locking.
 #[derive(Clone, Copy)]
-pub struct Model {
+pub struct Variant {
     pub code: u8,
     pub buttons: u8,
     pub channels: u8,

@@ -1,5 +1,6 @@
--- The kinds that the laws are about. Assumes nothing.
-use Rattle.station.specs.Kinds.{Kind}
+-- The kinds of module that there are, and their new seats. Assumes nothing.
+use Rattle.std.specs.Prelude.{ℕ, replicate}
+use Rattle.station.specs.Kinds.{Kind, Seat}
 use Rattle.module.specs.Designs.{designed}
 use Rattle.interface.specs.declared.setup.InterfaceSetup.{InterfaceSetup}
 use Rattle.buttons.specs.Buttons.{design as buttons_design}
@@ -37,3 +38,8 @@ pub record EveryModule (Law : Kind → Type 0) : Type 0 where
   pub relay : EveryRelay Law
   pub panel : EveryPanel Law
   pub buttons : EveryButtons Law
+
+-- the seat of a new module: each cell holds 0xFF, and each of so many state bytes 0
+abbrev pub new_seat : Kind → ℕ → ℕ → Seat
+new_seat k address state_bytes =
+    record { kind = k; address = address; content = record { cells = replicate k.memory 255; state = replicate state_bytes 0 } }
