@@ -1,7 +1,7 @@
 -- Holds end in time. Assumes nothing.
-use Rattle.std.proofs.Common.{◌≡◌, ℕ, suc, ◌-◌, ◌<◌, ◌≤◌, true, Bool, false, cond, not, ◌||◌, eqb, ltb, leb, List, [], ◌∷◌, Some, None, Option, sym, refl, ap, ◌∙◌, subst, inl, inr, arith}
+use Rattle.std.proofs.Common.{◌≡◌, ℕ, suc, ◌-◌, ◌<◌, ◌≤◌, true, Bool, false, cond, not, ◌||◌, eqb, ltb, leb, List, [], ◌∷◌, is_some, Some, None, Option, sym, refl, ap, ◌∙◌, subst, inl, inr, arith}
 use lib.Bits.{bit_and}
-use Rattle.std.proofs.lemmas.Bool.{cond-true, cond-false, cond_both, eqb-true, eq-eqb, ne_eqb, lt-ltb, ltb-true, cases_eq}
+use Rattle.std.proofs.lemmas.Bool.{false≢true, cond-true, cond-false, cond_both, and_parts, eqb-true, eq-eqb, ne_eqb, ltb-true, cases_eq}
 use Rattle.bus.specs.declared.frame.Frame.{Frame}
 use Rattle.bus.specs.Frames.{byte, seconds_in, is_command}
 use Rattle.bus.proofs.Commands.{other_command}
@@ -18,14 +18,14 @@ use Rattle.timing.specs.TimeCodes.{stretches, by_stretch, seconds_of_code, hold_
 use Rattle.interface.specs.declared.variant.Variant.{Variant}
 use Rattle.interface.specs.declared.setup.InterfaceSetup.{InterfaceSetup}
 use Rattle.interface.specs.Channels.{hold_on, held_after}
-use Rattle.interface.specs.Links.{link_byte, lock_for, toggle_for, asked, by_records}
+use Rattle.interface.specs.Links.{link_byte, matches, lock_for, toggle_for, asked, by_records}
 use Rattle.interface.specs.Interfaces.{commanded, after_command, after_broadcast, after_status, after_second, after_push, design}
 use Rattle.interface.specs.States.{State, encoded, decoded}
-use Rattle.button_laws.specs.Holding.{names, AsksNothing, NoneAsks, Held, HoldEnds, HoldStays, LockSetsTheHold, LockEnds, UnlockFrees, InOrder, RecordsActInOrder, SingleRecordObeyed, LinkedLockEnds, LinkedUnlockFrees, LockedIgnoresPushes, SilentWhileHeld}
+use Rattle.button_laws.specs.Holding.{names, AsksNothing, NoneAsks, Held, HoldEnds, HoldStays, LockSetsTheHold, LockEnds, UnlockFrees, InOrder, ActsAlone, ActsLast, RecordsActInOrder, SingleRecordObeyed, LinkedLockEnds, LinkedUnlockFrees, LockedIgnoresPushes, SilentWhileHeld, RestKept, PushesKeepTheRest}
 use Rattle.button_laws.specs.Interfaces.{interface_kind, EveryInterface, hold, seconds}
 use Rattle.interface.proofs.Decoded.{told}
 use Rattle.button_laws.proofs.Eight.{length-held_after, length-ticked, ticked_at, held_after_keeps, named_obeys, length-by_records}
-use Rattle.button_laws.proofs.Records.{in_order, where_none_acts, where_one_acts}
+use Rattle.button_laws.proofs.Records.{in_order, where_none_acts, where_last_acts, where_one_acts}
 
 -- what an event makes of a hold that it asks nothing of
 abbrev moved : Event → ℕ → ℕ
@@ -154,40 +154,44 @@ short code n e = subst (λ t. t < 0xFFFFFF) (ap time_of e) (bound (ltb code 252)
         (λ _. cond_both (leb 120 code) _ _ Small (λ _. omega (arith, small))
         (λ _. cond_both (leb 0 code) _ _ Small (λ _. omega (arith, small)) (λ _. omega arith)))))))
 
+-- what the last record that acts makes of the hold, where that does not depend on the one that it finds
+obeys_last : (m : Variant) (s : InterfaceSetup) (own : ℕ) (r : Record) (f : Frame) (channel k n : ℕ) (l : Locking) → 1 ≤ channel → channel ≤ 8 → from_link (interface_kind m s) own r f ≡ true →
+    ActsLast m r.cells f channel k → asked (link_byte r.cells k 2) (link_byte r.cells k 3) ≡ Some l → ((h : ℕ) → obeyed l h ≡ n) → hold ((interface_kind m s).acts own r (Heard f)).after channel ≡ n
+obeys_last m s own r f channel k n l low high linked only asks same =
+    let x = records_act_in_order m s own r f channel low high linked in
+    where_last_acts m r.cells f channel low high (hold r channel) (hold ((interface_kind m s).acts own r (Heard f)).after channel) x k l only asks ∙ same (x.before k)
+
 pub linked_lock_ends : EveryInterface LinkedLockEnds
-linked_lock_ends m s own r f channel k n es low high linked only locks some e none =
-    let action = link_byte r.cells k 2 in
+linked_lock_ends m s own r f channel k n es low high linked locks some e none =
     let code = link_byte r.cells k 3 in
     let less = short code n e in
     let full : hold_for n ≡ n = omega arith in
     let timed : hold_of_code code ≡ Some n = cond-false (eqb code 0) _ _ (ne_eqb code 0 (λ z. omega arith)) ∙ e in
-    let after = hold ((interface_kind m s).acts own r (Heard f)).after channel in
-    let obeys : (l : Locking) → asked action code ≡ Some l → after ≡ obeyed l (hold r channel) = λ l asks. single_record_obeyed m s own r f channel k l low high linked only asks in
-    let set : after ≡ n =
+    let set : hold ((interface_kind m s).acts own r (Heard f)).after channel ≡ n =
     elim locks [
-      | inl three ↦ obeys (Lock n) (ap (λ a. asked a code) three ∙ ap lock_for timed) ∙ full
-      | inr four ↦ obeys (Toggle n) (ap (λ a. asked a code) four.0 ∙ ap toggle_for timed) ∙ (ap (λ h. obeyed (Toggle n) h) four.1 ∙ full)
+      | inl three ↦ obeys_last m s own r f channel k n (Lock n) low high linked three.1 (ap (λ a. asked a code) three.0 ∙ ap lock_for timed) (λ h. full)
+      | inr four ↦
+          single_record_obeyed m s own r f channel k (Toggle n) low high linked four.1.1 (ap (λ a. asked a code) four.0 ∙ ap toggle_for timed)
+          ∙ (ap (λ h. obeyed (Toggle n) h) four.1.0 ∙ full)
     ] in
     ends m s own channel low high es ((interface_kind m s).acts own r (Heard f)).after n set less none
 
 pub linked_unlock_frees : EveryInterface LinkedUnlockFrees
-linked_unlock_frees m s own r f channel k low high linked only frees =
-    let action = link_byte r.cells k 2 in
+linked_unlock_frees m s own r f channel k low high linked frees =
     let code = link_byte r.cells k 3 in
-    let after = hold ((interface_kind m s).acts own r (Heard f)).after channel in
-    let obeys : (l : Locking) → asked action code ≡ Some l → after ≡ obeyed l (hold r channel) = λ l asks. single_record_obeyed m s own r f channel k l low high linked only asks in
     elim frees [
-      | inl five ↦ obeys Unlock (ap (λ a. asked a code) five)
+      | inl five ↦ obeys_last m s own r f channel k 0 Unlock low high linked five.1 (ap (λ a. asked a code) five.0) (λ h. refl)
       | inr four ↦
-          let shut : locked (hold r channel) ≡ true = ap not (ne_eqb (hold r channel) 0 (λ z. omega (arith, four.1.1))) in
-          elim (cases_eq code 0) [
-            | inl zero ↦ obeys (Toggle 0xFFFFFF) (ap (λ a. asked a code) four.0 ∙ ap toggle_for (cond-true (eqb code 0) _ _ (eq-eqb code 0 zero))) ∙ cond-true (locked (hold r channel)) 0 _ shut
-            | inr some ↦
-                let n = by_stretch stretches code in
-                let timed : hold_of_code code ≡ Some n = cond-false (eqb code 0) _ _ (ne_eqb code 0 some) ∙ cond-true (ltb code 252) _ _ (lt-ltb code 252 four.1.0) in
-                obeys (Toggle n) (ap (λ a. asked a code) four.0 ∙ ap toggle_for timed) ∙ cond-true (locked (hold r channel)) 0 _ shut
-          ]
+          let only = four.1.1 in
+          let asking = and_parts (is_some (asked (link_byte r.cells k 2) code)) _ (and_parts (matches r.cells f k) _ only.acts).1 in
+          toggled four.0 four.1.0 only (hold_of_code code) refl (ap (λ a. is_some (asked a code)) (sym four.0) ∙ asking.0)
     ]
+  where
+    toggled : link_byte r.cells k 2 ≡ 4 → 0 < hold r channel → ActsAlone m r.cells f channel k → (t : Option ℕ) → hold_of_code (link_byte r.cells k 3) ≡ t → is_some (asked 4 (link_byte r.cells k 3)) ≡ true → hold ((interface_kind m s).acts own r (Heard f)).after channel ≡ 0
+    toggled four some only None e asks = absurd (false≢true (ap (λ o. is_some (toggle_for o)) (sym e) ∙ asks))
+    toggled four some only (Some t) e asks =
+        let shut : locked (hold r channel) ≡ true = ap not (ne_eqb (hold r channel) 0 (λ z. omega arith)) in
+        single_record_obeyed m s own r f channel k (Toggle t) low high linked only (ap (λ a. asked a (link_byte r.cells k 3)) four ∙ ap toggle_for e) ∙ cond-true (locked (hold r channel)) 0 _ shut
 
 pub locked_ignores_pushes : EveryInterface LockedIgnoresPushes
 locked_ignores_pushes m s own r p e =
@@ -207,3 +211,11 @@ silent_while_held m s own r p es low high e less none =
           (locked_ignores_pushes m s own now p (ap not (ne_eqb (hold now p.channel) 0 (λ z. omega (arith, left, before))))).1,
       λ over. ap (λ (o : Outcome). o.sent) (cond-true (eqb p.address own) _ _ (eq-eqb _ _ e)) ∙ cond-false (locked (hold now p.channel)) [] works (ap locked (held.over over)),
     )
+
+pub pushes_keep_the_rest : EveryInterface PushesKeepTheRest
+pushes_keep_the_rest m s own r p =
+    let x = decoded r.state in
+    let y = after_push m x p.channel p.edge in
+    cond_both (eqb p.address own) _ _ (λ (o : Outcome). RestKept x (decoded o.after.state))
+    (λ _. subst (RestKept x) (sym (told y refl)) (record { lamps = refl; holds = refl; clock = refl }))
+    (λ _. record { lamps = refl; holds = refl; clock = refl })

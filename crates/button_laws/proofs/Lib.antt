@@ -2,5 +2,5 @@ mod Eight
 mod Records
 mod Replies
 mod Holding
-mod Statuses
+mod StatusBits
 mod Clocks

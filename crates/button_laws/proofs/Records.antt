@@ -11,7 +11,7 @@ use Rattle.interface.specs.declared.variant.Variant.{Variant}
 use Rattle.interface.specs.Channels.{hold_on, held_after}
 use Rattle.interface.specs.Links.{link_byte, matches, asked, by_record, in_turn, by_records}
 use Rattle.interface.proofs.InTurn.{in_turn_none}
-use Rattle.button_laws.specs.Holding.{record_acts, InOrder, ActsAlone}
+use Rattle.button_laws.specs.Holding.{record_acts, InOrder, ActsAlone, ActsLast}
 use Rattle.button_laws.proofs.Eight.{length-in_turn, length-by_record, held_after_keeps, named_obeys}
 
 -- the last act of a row, that of k, comes after the others
@@ -68,10 +68,13 @@ module _ (m : Variant) (cells : List ℕ) (f : Frame) (channel : ℕ) (low : 1 �
     pub where_none_acts : ((j : ℕ) → j < 51 → record_acts m cells f channel j ≡ false) → last ≡ first
     where_none_acts none = sym x.ends ∙ (none_acts 0 51 51 (omega arith) (omega arith) (λ j _ to. none j to) ∙ x.starts)
 
+    pub where_last_acts : (k : ℕ) (l : Locking) → ActsLast m cells f channel k → asked (link_byte cells k 2) (link_byte cells k 3) ≡ Some l → last ≡ obeyed l (x.before k)
+    where_last_acts k l only asks =
+        let within = only.within in
+        sym x.ends ∙ (none_acts (suc k) (50 - k) 51 (omega arith) (omega arith) (λ j from to. only.last j (omega arith) to) ∙ x.acts k l within only.acts asks)
+
     pub where_one_acts : (k : ℕ) (l : Locking) → ActsAlone m cells f channel k → asked (link_byte cells k 2) (link_byte cells k 3) ≡ Some l → last ≡ obeyed l first
     where_one_acts k l only asks =
         let within = only.within in
-        sym x.ends
-        ∙ (none_acts (suc k) (50 - k) 51 (omega arith) (omega arith) (λ j from to. only.alone j to (λ same. omega arith))
-        ∙ (x.acts k l within only.acts asks
-        ∙ ap (obeyed l) (none_acts 0 k k (omega arith) (omega arith) (λ j from to. only.alone j (omega arith) (λ same. omega arith)) ∙ x.starts)))
+        where_last_acts k l (record { within = within; acts = only.acts; last = λ j from to. only.alone j to (λ same. omega arith) }) asks
+        ∙ ap (obeyed l) (none_acts 0 k k (omega arith) (omega arith) (λ j from to. only.alone j (omega arith) (λ same. omega arith)) ∙ x.starts)

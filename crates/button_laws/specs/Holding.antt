@@ -1,4 +1,4 @@
--- How long a channel stays locked. Assumes nothing.
+-- What locks a channel, for how long, and what that means for its button; channels are 1 to 8. Assumes nothing.
 use Rattle.std.specs.Prelude.{◌≡◌, ℕ, suc, ◌-◌, ◌<◌, ◌≤◌, Bool, true, false, ◌&&◌, List, [], ◌∷◌, is_some, Some, ◌≢◌, ◌⊎◌, bit_and}
 use Rattle.bus.specs.declared.frame.Frame.{Frame}
 use Rattle.bus.specs.Frames.{byte, seconds_in, is_command}
@@ -15,7 +15,7 @@ use Rattle.timing.specs.TimeCodes.{seconds_of_code}
 use Rattle.interface.specs.declared.variant.Variant.{Variant}
 use Rattle.interface.specs.Interfaces.{commanded}
 use Rattle.interface.specs.Links.{link_byte, matches, asked}
-use Rattle.interface.specs.States.{decoded}
+use Rattle.interface.specs.States.{State, decoded}
 use Rattle.button_laws.specs.Interfaces.{hold, seconds}
 
 -- the command's channel bits that count have the channel's bit
@@ -109,26 +109,34 @@ SingleRecordObeyed v kind =
     ActsAlone v r.cells f channel k → asked (link_byte r.cells k 2) (link_byte r.cells k 3) ≡ Some l →
     hold (kind.acts own r (Heard f)).after channel ≡ obeyed l (hold r channel)
 
--- an action that locks a channel with this hold for the time of its code: 3 always, 4 where it is free
-abbrev pub Locks : ℕ → ℕ → Type 0
-Locks action h = (action ≡ 3) ⊎ ((action ≡ 4) × (h ≡ 0))
+-- record k acts on the channel, and no later one does
+pub record ActsLast (v : Variant) (cells : List ℕ) (f : Frame) (channel k : ℕ) : Type 0 where
+  pub within : k < 51
+  pub acts : record_acts v cells f channel k ≡ true
+  pub last : (j : ℕ) → k < j → j < 51 → record_acts v cells f channel j ≡ false
 
--- where a record that acts alone locks the channel, it is free after exactly the seconds of the record's code
+-- record k locks the channel in the end: by action 3, whatever the records before it did, or by action 4, alone and with the channel free
+abbrev pub Locks : Variant → Record → Frame → ℕ → ℕ → Type 0
+Locks v r f channel k =
+    ((link_byte r.cells k 2 ≡ 3) × ActsLast v r.cells f channel k) ⊎ ((link_byte r.cells k 2 ≡ 4) × ((hold r channel ≡ 0) × ActsAlone v r.cells f channel k))
+
+-- then the channel is free after exactly the seconds of the record's code
 abbrev pub LinkedLockEnds : Variant → Kind → Type 0
 LinkedLockEnds v kind =
     (own : ℕ) (r : Record) (f : Frame) (channel k n : ℕ) (es : List Event) → 1 ≤ channel → channel ≤ 8 → from_link kind own r f ≡ true →
-    ActsAlone v r.cells f channel k → Locks (link_byte r.cells k 2) (hold r channel) → 0 < link_byte r.cells k 3 → seconds_of_code (link_byte r.cells k 3) ≡ Some n →
+    Locks v r f channel k → 0 < link_byte r.cells k 3 → seconds_of_code (link_byte r.cells k 3) ≡ Some n →
     NoneAsks v kind own (kind.acts own r (Heard f)).after channel es → Held n (seconds es) (hold (later kind own r (Heard f ∷ es)) channel)
 
--- an action that frees a channel with this hold: 5 always, 4 where it is locked and the code has a time
-abbrev pub Frees : ℕ → ℕ → ℕ → Type 0
-Frees action code h = (action ≡ 5) ⊎ ((action ≡ 4) × ((code < 252) × (0 < h)))
+-- record k frees the channel in the end: by action 5, whatever the records before it did, or by action 4, alone and with the channel locked
+abbrev pub Frees : Variant → Record → Frame → ℕ → ℕ → Type 0
+Frees v r f channel k =
+    ((link_byte r.cells k 2 ≡ 5) × ActsLast v r.cells f channel k) ⊎ ((link_byte r.cells k 2 ≡ 4) × ((0 < hold r channel) × ActsAlone v r.cells f channel k))
 
--- where a record that acts alone frees the channel, it is free
+-- then the channel is free
 abbrev pub LinkedUnlockFrees : Variant → Kind → Type 0
 LinkedUnlockFrees v kind =
     (own : ℕ) (r : Record) (f : Frame) (channel k : ℕ) → 1 ≤ channel → channel ≤ 8 → from_link kind own r f ≡ true →
-    ActsAlone v r.cells f channel k → Frees (link_byte r.cells k 2) (link_byte r.cells k 3) (hold r channel) → hold (kind.acts own r (Heard f)).after channel ≡ 0
+    Frees v r f channel k → hold (kind.acts own r (Heard f)).after channel ≡ 0
 
 -- a push at a locked channel changes no part of the state, and sends nothing
 abbrev pub LockedIgnoresPushes : Variant → Kind → Type 0
@@ -144,3 +152,12 @@ SilentWhileHeld v kind =
     NoneAsks v kind own r p.channel es → let now = later kind own r es in let sent = (kind.acts own now (Pushed p)).sent in
     (seconds es < hold r p.channel → sent ≡ []) ×
     (hold r p.channel ≤ seconds es → sent ≡ push_sent own v.buttons (decoded now.state).pressed p.channel p.edge)
+
+-- a push changes no lamp, no hold and no time
+pub record RestKept (x y : State) : Type 0 where
+  pub lamps : y.lamps ≡ x.lamps
+  pub holds : y.holds ≡ x.holds
+  pub clock : y.clock ≡ x.clock
+
+abbrev pub PushesKeepTheRest : Variant → Kind → Type 0
+PushesKeepTheRest v kind = (own : ℕ) (r : Record) (p : Push) → RestKept (decoded r.state) (decoded (kind.acts own r (Pushed p)).after.state)

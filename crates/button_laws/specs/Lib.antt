@@ -1,4 +1,4 @@
 pub mod Interfaces
 pub mod Holding
-pub mod Statuses
+pub mod ModuleStatus
 pub mod Clocks

@@ -2,8 +2,8 @@
 #![tactic(auto)]
 
 ghost use Rattle.button_laws.specs.Clocks.{NewClockIsReal, ClockStaysReal, EveryTimeShownIsReal, ClockKeepsTime, ClockIsSet, SetOnlyForAll, ClockIsTold};
-ghost use Rattle.button_laws.specs.Holding.{HoldEnds, HoldStays, LockSetsTheHold, LockEnds, UnlockFrees, RecordsActInOrder, SingleRecordObeyed, LinkedLockEnds, LinkedUnlockFrees, LockedIgnoresPushes, SilentWhileHeld};
-ghost use Rattle.button_laws.specs.Statuses.{StatusIsTold};
+ghost use Rattle.button_laws.specs.Holding.{HoldEnds, HoldStays, LockSetsTheHold, LockEnds, UnlockFrees, RecordsActInOrder, SingleRecordObeyed, LinkedLockEnds, LinkedUnlockFrees, LockedIgnoresPushes, SilentWhileHeld, PushesKeepTheRest};
+ghost use Rattle.button_laws.specs.ModuleStatus.{StatusIsTold};
 ghost use Rattle.button_laws.specs.Interfaces.{EveryInterface};
 
 // How long a channel stays locked, and what that means for its button.
@@ -12,6 +12,7 @@ pub fn hold_laws() -> u8
     ensures hold_stays { EveryInterface HoldStays }
     ensures locked_ignores_pushes { EveryInterface LockedIgnoresPushes }
     ensures silent_while_held { EveryInterface SilentWhileHeld }
+    ensures pushes_keep_the_rest { EveryInterface PushesKeepTheRest }
 {
     0
 }
@@ -29,8 +30,8 @@ pub fn lock_laws() -> u8
     0
 }
 
-// What the status tells.
-pub fn status_laws() -> u8
+// What the reply to a status request tells.
+pub fn module_status_laws() -> u8
     ensures { EveryInterface StatusIsTold }
 {
     0

@@ -398,7 +398,7 @@ fn statuses_with_other_counts(rt: HostRuntime) -> Result<(), Fail> {
 }
 
 // The last record: code 251 locks, 252 and the three after it do nothing, 252 not even where action 4 would free the
-// channel; action 5 frees it, whatever its code.
+// channel; action 5 frees it, with code 252 as with any other.
 #[test]
 fn last_codes(rt: HostRuntime) -> Result<(), Fail> {
     button_case(
@@ -478,7 +478,7 @@ fn records_that_do_nothing(rt: HostRuntime) -> Result<(), Fail> {
     )
 }
 
-// Only the clock is asked for and set at address 0.
+// Commands other than those of the clock are ignored at address 0.
 #[test]
 fn broadcasts(rt: HostRuntime) -> Result<(), Fail> {
     button_case(

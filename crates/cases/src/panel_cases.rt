@@ -45,7 +45,7 @@ fn lamp_modes(rt: HostRuntime) -> Result<(), Fail> {
     )
 }
 
-// A count that is off by one makes it another frame, which does nothing.
+// A count that is off by one makes it another frame, which does nothing. Lamp 2 is on meanwhile.
 #[test]
 fn wrong_counts(rt: HostRuntime) -> Result<(), Fail> {
     case(

@@ -30,14 +30,14 @@ abbrev pub EveryPanel : (Kind → Type 0) → Type 0
 EveryPanel Law = (s : PanelSetup) → Law (panel_kind s)
 
 -- and of each button interface
-abbrev pub EveryButtons : (Kind → Type 0) → Type 0
-EveryButtons Law = (s : InterfaceSetup) → Law (buttons_kind s)
+abbrev pub EveryButtonInterface : (Kind → Type 0) → Type 0
+EveryButtonInterface Law = (s : InterfaceSetup) → Law (buttons_kind s)
 
 -- so it holds of each module of the three kinds
 pub record EveryModule (Law : Kind → Type 0) : Type 0 where
   pub relay : EveryRelay Law
   pub panel : EveryPanel Law
-  pub buttons : EveryButtons Law
+  pub buttons : EveryButtonInterface Law
 
 -- the seat of a new module: each cell holds 0xFF, and each of so many state bytes 0
 abbrev pub new_seat : Kind → ℕ → ℕ → Seat

@@ -17,7 +17,7 @@ use Rattle.module.proofs.Answered.{at_own}
 use Rattle.module.proofs.Bitwise.{has_set, has_cleared}
 use Rattle.panel.specs.Panels.{design as panel_design}
 use Rattle.buttons.specs.Buttons.{design as buttons_design}
-use Rattle.laws.specs.LampModes.{Light, shining, asks_for, LampsFollow, LampsAreSet, EveryLamp}
+use Rattle.laws.specs.LampModes.{Light, shining, asks_for, LampsObey, LampsAreSet, EveryKindWithLamps}
 
 -- the lamps that the state bytes tell
 abbrev lamps_of : Record → Lamps
@@ -92,14 +92,14 @@ module _ (d : Design) (by : ByLamps d) where
   lights : (own : ℕ) (r : Record) (f : Frame) (c : ℕ) → f.address ≡ own → light_of (lamps_of ((designed d).acts own r (Heard f)).after) c ≡ light_of (lamps_after (lamps_of r) f) c
   lights own r f c here = ap (λ (o : Outcome). light_of (lamps_of o.after) c) (at_own d own r f here) ∙ ap (λ l. light_of l c) (by own r f)
 
-  follow : LampsFollow (designed d)
+  follow : LampsObey (designed d)
   follow own r f mode c here w byte low high = lights own r f c here ∙ (ap (λ l. light_of l c) (after_mode (lamps_of r) f mode w) ∙ light_put _ c byte low high mode (lamps_of r))
 
   are_set : LampsAreSet (designed d)
   are_set own r f c here w = lights own r f c here ∙ ap (λ l. light_of l c) (cond-true (is_command 0xF4 4 f) _ _ w)
 
-pub lamps_follow : EveryLamp LampsFollow
-lamps_follow = record { panel = λ s. follow (panel_design s) (λ own r f. refl); buttons = λ s. follow (buttons_design s) (λ own r f. refl) }
+pub lamps_obey : EveryKindWithLamps LampsObey
+lamps_obey = record { panel = λ s. follow (panel_design s) (λ own r f. refl); buttons = λ s. follow (buttons_design s) (λ own r f. refl) }
 
-pub lamps_are_set : EveryLamp LampsAreSet
+pub lamps_are_set : EveryKindWithLamps LampsAreSet
 lamps_are_set = record { panel = λ s. are_set (panel_design s) (λ own r f. refl); buttons = λ s. are_set (buttons_design s) (λ own r f. refl) }

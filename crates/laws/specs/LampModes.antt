@@ -8,7 +8,7 @@ use Rattle.module.specs.declared.lamps.LampMode.{LampMode}
 use Rattle.module.specs.declared.lamps.LampMode.TheVariants.{Out, On, Slow, Fast, VeryFast}
 use Rattle.module.specs.Bits.{has_bit}
 use Rattle.module.specs.Pushes.{bit}
-use Rattle.kinds.specs.Kinds.{EveryPanel, EveryButtons}
+use Rattle.kinds.specs.Kinds.{EveryPanel, EveryButtonInterface}
 
 -- in which of the three lamp bytes a lamp has its bit
 pub record Light : Type 0 where
@@ -38,8 +38,8 @@ asks_for Fast = 0xF8
 asks_for VeryFast = 0xF9
 
 -- it puts the lamps that it names in that mode and leaves the others
-abbrev pub LampsFollow : Kind → Type 0
-LampsFollow k =
+abbrev pub LampsObey : Kind → Type 0
+LampsObey k =
     (own : ℕ) (r : Record) (f : Frame) (mode : LampMode) (channel : ℕ) → f.address ≡ own → is_command (asks_for mode) 2 f ≡ true → byte f 1 < 256 →
     1 ≤ channel → channel ≤ 8 →
     light (k.acts own r (Heard f)).after channel ≡ cond (has_bit (byte f 1) (bit channel)) (shining mode) (light r channel)
@@ -51,7 +51,7 @@ LampsAreSet k =
     light (k.acts own r (Heard f)).after channel
     ≡ record { on = has_bit (byte f 1) (bit channel); slow = has_bit (byte f 2) (bit channel); fast = has_bit (byte f 3) (bit channel) }
 
--- that is so of each panel and each button interface
-pub record EveryLamp (Law : Kind → Type 0) : Type 0 where
+-- a law holds of each panel and each button interface
+pub record EveryKindWithLamps (Law : Kind → Type 0) : Type 0 where
   pub panel : EveryPanel Law
-  pub buttons : EveryButtons Law
+  pub buttons : EveryButtonInterface Law

@@ -5,10 +5,10 @@ ghost use Rattle.std.specs.List.{AllByRecursion};
 ghost use Rattle.laws.specs.Blocks.{TakesBlockWrites, BlockWritesKeepChannels};
 ghost use Rattle.kinds.specs.Kinds.{EveryRelay, EveryModule};
 ghost use Rattle.laws.specs.LampFrames.{LampsOnlyToLinks, ElseFromOwnAddress};
-ghost use Rattle.laws.specs.LampModes.{LampsFollow, LampsAreSet, EveryLamp};
+ghost use Rattle.laws.specs.LampModes.{LampsObey, LampsAreSet, EveryKindWithLamps};
 ghost use Rattle.laws.specs.MemoryReads.{AnswersReads, ReadsBack};
 ghost use Rattle.laws.specs.Pairs.{FirstPairFound, NoPairFound, FirstMatchObeyed, NoMatchKept};
-ghost use Rattle.laws.specs.Pushing.{PushMoves, PushIgnored, EveryButton};
+ghost use Rattle.laws.specs.Pushing.{PushMoves, PushIgnored, EveryKindWithButtons};
 ghost use Rattle.laws.specs.Sending.{SendsOnly, WellFormed, NoWrite};
 ghost use Rattle.laws.specs.Times.{TimeEnds, ChannelTimeEnds};
 ghost use Rattle.laws.specs.WorkedLines.{worked_lines, Claim};
@@ -66,16 +66,16 @@ pub fn read_laws() -> u8
 
 // What a push does to the buttons.
 pub fn push_laws() -> u8
-    ensures push_moves { EveryButton PushMoves }
-    ensures push_ignored { EveryButton PushIgnored }
+    ensures push_moves { EveryKindWithButtons PushMoves }
+    ensures push_ignored { EveryKindWithButtons PushIgnored }
 {
     0
 }
 
 // What the lamp commands do to each lamp.
 pub fn mode_laws() -> u8
-    ensures lamps_follow { EveryLamp LampsFollow }
-    ensures lamps_are_set { EveryLamp LampsAreSet }
+    ensures lamps_obey { EveryKindWithLamps LampsObey }
+    ensures lamps_are_set { EveryKindWithLamps LampsAreSet }
 {
     0
 }

@@ -1,5 +1,5 @@
 -- What a button interface tells of its buttons and channels. Assumes nothing.
-use Rattle.std.specs.Prelude.{◌≡◌, ℕ, ◌≤◌, true, List, [], ◌∷◌}
+use Rattle.std.specs.Prelude.{◌≡◌, ℕ, true, List, [], ◌∷◌}
 use Rattle.bus.specs.declared.frame.Frame.{Frame}
 use Rattle.bus.specs.Frames.{is_command, message}
 use Rattle.station.specs.declared.event.Event.TheVariants.{Heard}
@@ -15,7 +15,7 @@ use Rattle.button_laws.specs.Interfaces.{hold}
 pub record TellsStatus (own : ℕ) (r : Record) (sent : List Frame) : Type 0 where
   pub bits : ℕ
   pub reply : sent ≡ message 3 own (0xED ∷ (decoded r.state).pressed ∷ 0xFF ∷ 0xFF ∷ bits ∷ 0 ∷ 0 ∷ []) ∷ []
-  pub of_channel : (channel : ℕ) → 1 ≤ channel → channel ≤ 8 → has_bit bits (bit channel) ≡ locked (hold r channel)
+  pub of_channel : (channel : ℕ) → has_bit bits (bit channel) ≡ locked (hold r channel)
 
 -- who asks at the own address gets it
 abbrev pub StatusIsTold : Variant → Kind → Type 0

@@ -13,7 +13,7 @@ use Rattle.interface.specs.Channels.{locked_bits}
 use Rattle.interface.specs.Interfaces.{status_sent, clock_sent, design}
 use Rattle.interface.specs.States.{decoded}
 use Rattle.button_laws.specs.Interfaces.{EveryInterface}
-use Rattle.button_laws.specs.Statuses.{StatusIsTold}
+use Rattle.button_laws.specs.ModuleStatus.{StatusIsTold}
 use Rattle.button_laws.proofs.Replies.{no_memory, no_type}
 
 twice : (b : Bool) (w : ℕ) → cond b (2 * w) 0 ≡ 2 * cond b w 0
@@ -50,5 +50,5 @@ status_is_told m s own r f e w =
     record {
       bits = locked_bits 1 x.holds;
       reply = ap (λ (o : Outcome). o.sent) (at_own (design m s) own r f e) ∙ (λ i. no_memory own 0xFA 2 f w refl refl refl r.cells i ++ (told i ++ (no_type own 0xFA 2 f w m s i ++ no_clock i)));
-      of_channel = λ channel _ _. at_place (locked_bits 1 x.holds) (channel - 1) (locked (get_or x.holds (channel - 1) 0)) (bits_locked x.holds (channel - 1));
+      of_channel = λ channel. at_place (locked_bits 1 x.holds) (channel - 1) (locked (get_or x.holds (channel - 1) 0)) (bits_locked x.holds (channel - 1));
     }
