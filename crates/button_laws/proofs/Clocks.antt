@@ -42,22 +42,22 @@ moved (Pushed p) t = t
 foreign : (t : Time) (f : Frame) → eqb f.address 0 ≡ false → clock_after t f ≡ t
 foreign t f e = cond-false (eqb f.address 0 && is_command 0xD8 4 f) _ _ (and_left (eqb f.address 0) (is_command 0xD8 4 f) e)
 
-time_moves : (m : Variant) (s : InterfaceSetup) (own : ℕ) (r : Record) (e : Event) → time ((interface_kind m s).acts own r e).after ≡ moved e (time r)
-time_moves m s own r (Heard f) =
+time_moves : (v : Variant) (s : InterfaceSetup) (own : ℕ) (r : Record) (e : Event) → time ((interface_kind v s).acts own r e).after ≡ moved e (time r)
+time_moves v s own r (Heard f) =
     let x = decoded r.state in
     let Is : Outcome → Type 0 = λ o. time o.after ≡ clock_after (time r) f in
     cond_both (eqb f.address own) _ _ Is
-    (λ _. at (after_command m x f) (told (after_command m x f) (length-held_after (commanded f) (bit_and (byte f 1) m.channels) x.holds)))
+    (λ _. at (after_command v x f) (told (after_command v x f) (length-held_after (commanded f) (bit_and (byte f 1) v.channels) x.holds)))
     (λ _. cond_both (eqb f.address 0) _ _ Is
     (λ _. at (after_broadcast x f) (told (after_broadcast x f) refl))
-    (λ other. cond_both (from_link (interface_kind m s) own r f) _ _ Is
-    (λ _. at (after_status m r.cells x f) (told (after_status m r.cells x f) (length-by_records m.channels r.cells f x.holds)) ∙ sym (foreign (time r) f other))
+    (λ other. cond_both (from_link (interface_kind v s) own r f) _ _ Is
+    (λ _. at (after_status v r.cells x f) (told (after_status v r.cells x f) (length-by_records v.channels r.cells f x.holds)) ∙ sym (foreign (time r) f other))
     (λ _. sym (foreign (time r) f other))))
-time_moves m s own r Second = let x = decoded r.state in at (after_second x) (told (after_second x) (length-ticked x.holds))
-time_moves m s own r (Pushed p) =
+time_moves v s own r Second = let x = decoded r.state in at (after_second x) (told (after_second x) (length-ticked x.holds))
+time_moves v s own r (Pushed p) =
     let x = decoded r.state in
     cond_both (eqb p.address own) _ _ (λ (o : Outcome). time o.after ≡ time r)
-    (λ _. at (after_push m x p.channel p.edge) (told (after_push m x p.channel p.edge) refl)) (λ _. refl)
+    (λ _. at (after_push v x p.channel p.edge) (told (after_push v x p.channel p.edge) refl)) (λ _. refl)
 
 -- a part of the time stays in its range
 next_within : (moves : Bool) (last n : ℕ) → n < suc last → next moves last n < suc last
@@ -86,8 +86,8 @@ moved_real Second t h =
 moved_real (Pushed p) t h = h
 
 pub clock_stays_real : EveryInterface ClockStaysReal
-clock_stays_real m s own r [] h = h
-clock_stays_real m s own r (e ∷ es) h = clock_stays_real m s own ((interface_kind m s).acts own r e).after es (subst Real (sym (time_moves m s own r e)) (moved_real e (time r) h))
+clock_stays_real v s own r [] h = h
+clock_stays_real v s own r (e ∷ es) h = clock_stays_real v s own ((interface_kind v s).acts own r e).after es (subst Real (sym (time_moves v s own r e)) (moved_real e (time r) h))
 
 -- no other form of frame tells a time
 forms : (own : ℕ) → Forms TellsRealTime own
@@ -109,23 +109,23 @@ told_real : (own : ℕ) (t : Time) → Real t → TellsRealTime (message 3 own (
 told_real own t h e =
     and_from (ltb t.day 7) (ltb t.hour 24 && ltb t.minute 60) (lt-ltb _ _ h.day) (and_from (ltb t.hour 24) (ltb t.minute 60) (lt-ltb _ _ h.hour) (lt-ltb _ _ h.minute))
 
-shown_real : (m : Variant) (s : InterfaceSetup) (own : ℕ) (r : Record) (e : Event) → Real (time r) → AllByRecursion TellsRealTime ((interface_kind m s).acts own r e).sent
-shown_real m s own r (Heard f) h =
+shown_real : (v : Variant) (s : InterfaceSetup) (own : ℕ) (r : Record) (e : Event) → Real (time r) → AllByRecursion TellsRealTime ((interface_kind v s).acts own r e).sent
+shown_real v s own r (Heard f) h =
     let x = decoded r.state in
     let Q : Outcome → Type 0 = λ o. AllByRecursion TellsRealTime o.sent in
-    cond_both (eqb f.address own) _ _ Q (λ _. all_command TellsRealTime m s own (forms own) r.cells x f (told_real own x.clock h))
-    (λ _. cond_both (eqb f.address 0) _ _ Q (λ _. all_clock TellsRealTime m s own (forms own) x.clock f (told_real own x.clock h))
-    (λ _. cond_both (from_link (interface_kind m s) own r f) _ _ Q (λ _. tt) (λ _. tt)))
-shown_real m s own r Second h = tt
-shown_real m s own r (Pushed p) h =
+    cond_both (eqb f.address own) _ _ Q (λ _. all_command TellsRealTime v s own (forms own) r.cells x f (told_real own x.clock h))
+    (λ _. cond_both (eqb f.address 0) _ _ Q (λ _. all_clock TellsRealTime v s own (forms own) x.clock f (told_real own x.clock h))
+    (λ _. cond_both (from_link (interface_kind v s) own r f) _ _ Q (λ _. tt) (λ _. tt)))
+shown_real v s own r Second h = tt
+shown_real v s own r (Pushed p) h =
     cond_both (eqb p.address own) _ _ (λ (o : Outcome). AllByRecursion TellsRealTime o.sent)
-    (λ _. all_pushed TellsRealTime m s own (forms own) (decoded r.state) p.channel p.edge) (λ _. tt)
+    (λ _. all_pushed TellsRealTime v s own (forms own) (decoded r.state) p.channel p.edge) (λ _. tt)
 
 pub every_time_shown_is_real : EveryInterface EveryTimeShownIsReal
-every_time_shown_is_real m s own r es e h = shown_real m s own (later (interface_kind m s) own r es) e (clock_stays_real m s own r es h)
+every_time_shown_is_real v s own r es e h = shown_real v s own (later (interface_kind v s) own r es) e (clock_stays_real v s own r es h)
 
 pub set_only_for_all : EveryInterface SetOnlyForAll
-set_only_for_all m s own r f h = time_moves m s own r (Heard f) ∙ foreign (time r) f (ne_eqb _ _ h)
+set_only_for_all v s own r f h = time_moves v s own r (Heard f) ∙ foreign (time r) f (ne_eqb _ _ h)
 
 -- a test whether a part of the time is at its last value tells so
 abbrev Tells : Bool → ℕ → ℕ → Type 0
@@ -163,46 +163,46 @@ unset t f e =
     (λ _. refl)
 
 pub clock_keeps_time : EveryInterface ClockKeepsTime
-clock_keeps_time m s own r [] h none =
+clock_keeps_time v s own r [] h none =
     let small : second_of_week (time r) < 604800 = omega (arith, h.day, h.hour, h.minute, h.second) in
     omega arith
-clock_keeps_time m s own r (Heard f ∷ es) h none =
-    let after = ((interface_kind m s).acts own r (Heard f)).after in
-    let same : time after ≡ time r = time_moves m s own r (Heard f) ∙ unset (time r) f none.0 in
-    clock_keeps_time m s own after es (clock_stays_real m s own r (Heard f ∷ []) h) none.1 ∙ ap (λ t. (second_of_week t + seconds es) % 604800) same
-clock_keeps_time m s own r (Second ∷ es) h none =
-    let after = ((interface_kind m s).acts own r Second).after in
-    let rest = clock_keeps_time m s own after es (clock_stays_real m s own r (Second ∷ []) h) none in
-    let step : second_of_week (time after) ≡ (second_of_week (time r) + 1) % 604800 = ap second_of_week (time_moves m s own r Second) ∙ one_more (time r) h in
+clock_keeps_time v s own r (Heard f ∷ es) h none =
+    let after = ((interface_kind v s).acts own r (Heard f)).after in
+    let same : time after ≡ time r = time_moves v s own r (Heard f) ∙ unset (time r) f none.0 in
+    clock_keeps_time v s own after es (clock_stays_real v s own r (Heard f ∷ []) h) none.1 ∙ ap (λ t. (second_of_week t + seconds es) % 604800) same
+clock_keeps_time v s own r (Second ∷ es) h none =
+    let after = ((interface_kind v s).acts own r Second).after in
+    let rest = clock_keeps_time v s own after es (clock_stays_real v s own r (Second ∷ []) h) none in
+    let step : second_of_week (time after) ≡ (second_of_week (time r) + 1) % 604800 = ap second_of_week (time_moves v s own r Second) ∙ one_more (time r) h in
     omega (arith, rest, step)
-clock_keeps_time m s own r (Pushed p ∷ es) h none =
-    let after = ((interface_kind m s).acts own r (Pushed p)).after in
-    clock_keeps_time m s own after es (clock_stays_real m s own r (Pushed p ∷ []) h) none ∙ ap (λ t. (second_of_week t + seconds es) % 604800) (time_moves m s own r (Pushed p))
+clock_keeps_time v s own r (Pushed p ∷ es) h none =
+    let after = ((interface_kind v s).acts own r (Pushed p)).after in
+    clock_keeps_time v s own after es (clock_stays_real v s own r (Pushed p ∷ []) h) none ∙ ap (λ t. (second_of_week t + seconds es) % 604800) (time_moves v s own r (Pushed p))
 
 pub clock_is_set : EveryInterface ClockIsSet
-clock_is_set m s own r f e =
+clock_is_set v s own r f e =
     let parts = and_parts (eqb f.address 0) (is_command 0xD8 4 f && real (byte f 1) (byte f 2) (byte f 3)) e in
     let both = and_parts (is_command 0xD8 4 f) (real (byte f 1) (byte f 2) (byte f 3)) parts.1 in
-    time_moves m s own r (Heard f)
+    time_moves v s own r (Heard f)
     ∙ (cond-true (eqb f.address 0 && is_command 0xD8 4 f) _ _ (and_from (eqb f.address 0) (is_command 0xD8 4 f) parts.0 both.0)
     ∙ cond-true (real (byte f 1) (byte f 2) (byte f 3)) _ _ both.1)
 
 -- a request for the time is no other command
-module _ (m : Variant) (s : InterfaceSetup) (own : ℕ) (cells : List ℕ) (x : State) (f : Frame) (w : is_command 0xD7 1 f ≡ true) where
+module _ (v : Variant) (s : InterfaceSetup) (own : ℕ) (cells : List ℕ) (x : State) (f : Frame) (w : is_command 0xD7 1 f ≡ true) where
   only_told : clock_sent own x.clock f ≡ message 3 own (0xD8 ∷ x.clock.day ∷ x.clock.hour ∷ x.clock.minute ∷ []) ∷ []
   only_told = cond-true (is_command 0xD7 1 f) _ _ w
 
-  told_on_command : command_sent m s own cells x f ≡ message 3 own (0xD8 ∷ x.clock.day ∷ x.clock.hour ∷ x.clock.minute ∷ []) ∷ []
+  told_on_command : command_sent v s own cells x f ≡ message 3 own (0xD8 ∷ x.clock.day ∷ x.clock.hour ∷ x.clock.minute ∷ []) ∷ []
   told_on_command =
       let no_status : status_sent own x f ≡ [] = cond-false (is_command 0xFA 2 f) _ _ (other_command 0xD7 1 f w 0xFA 2 refl) in
-      λ i. no_memory own 0xD7 1 f w refl refl refl cells i ++ (no_status i ++ (no_type own 0xD7 1 f w m s i ++ only_told i))
+      λ i. no_memory own 0xD7 1 f w refl refl refl cells i ++ (no_status i ++ (no_type own 0xD7 1 f w v s i ++ only_told i))
 
 pub clock_is_told : EveryInterface ClockIsTold
-clock_is_told m s own r f to w =
+clock_is_told v s own r f to w =
     let x = decoded r.state in
     let Told : Outcome → Type 0 = λ o. o.sent ≡ message 3 own (0xD8 ∷ (time r).day ∷ (time r).hour ∷ (time r).minute ∷ []) ∷ [] in
-    cond_both (eqb f.address own) _ _ Told (λ _. told_on_command m s own r.cells x f w)
-    (λ other. cond_both (eqb f.address 0) _ _ Told (λ _. only_told m s own r.cells x f w)
+    cond_both (eqb f.address own) _ _ Told (λ _. told_on_command v s own r.cells x f w)
+    (λ other. cond_both (eqb f.address 0) _ _ Told (λ _. only_told v s own r.cells x f w)
     (λ neither. elim to [
       | inl here ↦ absurd (both_ways (eqb f.address own) other (eq-eqb _ _ here))
       | inr all ↦ absurd (both_ways (eqb f.address 0) neither (eq-eqb _ _ all))

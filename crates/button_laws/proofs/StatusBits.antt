@@ -42,13 +42,13 @@ bits_locked (h ∷ hs) (suc i) =
     ∙ (ap (λ n. bit_at n i) (high (locked h) (locked_bits 1 hs)) ∙ bits_locked hs i))
 
 pub status_is_told : EveryInterface StatusIsTold
-status_is_told m s own r f e w =
+status_is_told v s own r f e w =
     let x = decoded r.state in
     let status = message 3 own (0xED ∷ x.pressed ∷ 0xFF ∷ 0xFF ∷ locked_bits 1 x.holds ∷ 0 ∷ 0 ∷ []) ∷ [] in
     let told : status_sent own x f ≡ status = cond-true (is_command 0xFA 2 f) _ _ w in
     let no_clock : clock_sent own x.clock f ≡ [] = cond-false (is_command 0xD7 1 f) _ _ (other_command 0xFA 2 f w 0xD7 1 refl) in
     record {
       bits = locked_bits 1 x.holds;
-      reply = ap (λ (o : Outcome). o.sent) (at_own (design m s) own r f e) ∙ (λ i. no_memory own 0xFA 2 f w refl refl refl r.cells i ++ (told i ++ (no_type own 0xFA 2 f w m s i ++ no_clock i)));
+      reply = ap (λ (o : Outcome). o.sent) (at_own (design v s) own r f e) ∙ (λ i. no_memory own 0xFA 2 f w refl refl refl r.cells i ++ (told i ++ (no_type own 0xFA 2 f w v s i ++ no_clock i)));
       of_channel = λ channel. at_place (locked_bits 1 x.holds) (channel - 1) (locked (get_or x.holds (channel - 1) 0)) (bits_locked x.holds (channel - 1));
     }

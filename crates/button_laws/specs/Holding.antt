@@ -115,7 +115,8 @@ pub record ActsLast (v : Variant) (cells : List ℕ) (f : Frame) (channel k : �
   pub acts : record_acts v cells f channel k ≡ true
   pub last : (j : ℕ) → k < j → j < 51 → record_acts v cells f channel j ≡ false
 
--- record k locks the channel in the end: by action 3, whatever the records before it did, or by action 4, alone and with the channel free
+-- record k locks the channel in the end: by action 3, whatever the records before it did, or by action 4, alone and with
+-- the channel free
 abbrev pub Locks : Variant → Record → Frame → ℕ → ℕ → Type 0
 Locks v r f channel k =
     ((link_byte r.cells k 2 ≡ 3) × ActsLast v r.cells f channel k) ⊎ ((link_byte r.cells k 2 ≡ 4) × ((hold r channel ≡ 0) × ActsAlone v r.cells f channel k))
@@ -127,7 +128,8 @@ LinkedLockEnds v kind =
     Locks v r f channel k → 0 < link_byte r.cells k 3 → seconds_of_code (link_byte r.cells k 3) ≡ Some n →
     NoneAsks v kind own (kind.acts own r (Heard f)).after channel es → Held n (seconds es) (hold (later kind own r (Heard f ∷ es)) channel)
 
--- record k frees the channel in the end: by action 5, whatever the records before it did, or by action 4, alone and with the channel locked
+-- record k frees the channel in the end: by action 5, whatever the records before it did, or by action 4, alone and with
+-- the channel locked
 abbrev pub Frees : Variant → Record → Frame → ℕ → ℕ → Type 0
 Frees v r f channel k =
     ((link_byte r.cells k 2 ≡ 5) × ActsLast v r.cells f channel k) ⊎ ((link_byte r.cells k 2 ≡ 4) × ((0 < hold r channel) × ActsAlone v r.cells f channel k))

@@ -1,7 +1,7 @@
--- What a button interface tells of its buttons and channels. Assumes nothing.
+-- What a button interface tells of itself: its buttons and channels, and its type. Assumes nothing.
 use Rattle.std.specs.Prelude.{◌≡◌, ℕ, true, List, [], ◌∷◌}
 use Rattle.bus.specs.declared.frame.Frame.{Frame}
-use Rattle.bus.specs.Frames.{is_command, message}
+use Rattle.bus.specs.Frames.{is_command, is_type_request, message}
 use Rattle.station.specs.declared.event.Event.TheVariants.{Heard}
 use Rattle.station.specs.Kinds.{Record, Kind}
 use Rattle.module.specs.Bits.{has_bit}
@@ -21,3 +21,9 @@ pub record TellsStatus (own : ℕ) (r : Record) (sent : List Frame) : Type 0 whe
 abbrev pub StatusIsTold : Variant → Kind → Type 0
 StatusIsTold v kind =
     (own : ℕ) (r : Record) (f : Frame) → f.address ≡ own → is_command 0xFA 2 f ≡ true → TellsStatus own r (kind.acts own r (Heard f)).sent
+
+-- who asks for the type at the own address gets one reply, and nothing else: the type code and the setup
+abbrev pub TypeIsTold : Variant → Kind → Type 0
+TypeIsTold v kind =
+    (own : ℕ) (r : Record) (f : Frame) → f.address ≡ own → is_type_request f ≡ true →
+    (kind.acts own r (Heard f)).sent ≡ message 3 own (0xFF ∷ v.code ∷ kind.setup) ∷ []

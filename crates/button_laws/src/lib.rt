@@ -3,7 +3,7 @@
 
 ghost use Rattle.button_laws.specs.Clocks.{NewClockIsReal, ClockStaysReal, EveryTimeShownIsReal, ClockKeepsTime, ClockIsSet, SetOnlyForAll, ClockIsTold};
 ghost use Rattle.button_laws.specs.Holding.{HoldEnds, HoldStays, LockSetsTheHold, LockEnds, UnlockFrees, RecordsActInOrder, SingleRecordObeyed, LinkedLockEnds, LinkedUnlockFrees, LockedIgnoresPushes, SilentWhileHeld, PushesKeepTheRest};
-ghost use Rattle.button_laws.specs.ModuleStatus.{StatusIsTold};
+ghost use Rattle.button_laws.specs.ModuleStatus.{StatusIsTold, TypeIsTold};
 ghost use Rattle.button_laws.specs.Interfaces.{EveryInterface};
 
 // How long a channel stays locked, and what that means for its button.
@@ -30,9 +30,10 @@ pub fn lock_laws() -> u8
     0
 }
 
-// What the reply to a status request tells.
+// What the replies to a status request and to a type request tell.
 pub fn module_status_laws() -> u8
-    ensures { EveryInterface StatusIsTold }
+    ensures status_is_told { EveryInterface StatusIsTold }
+    ensures type_is_told { EveryInterface TypeIsTold }
 {
     0
 }

@@ -1,6 +1,6 @@
 -- A push moves one button. Assumes nothing.
 use Rattle.std.proofs.Common.{◌≡◌, ℕ, zero, suc, ◌-◌, ◌<◌, ◌≤◌, Bool, true, false, not, ◌&&◌, ◌||◌, eqb, ltb, leb, [], slice_index, sym, refl, ap, ◌∙◌, subst, inl, inr, arith}
-use Rattle.std.proofs.lemmas.Bool.{false≢true, not-true, cond-true, cond-false, cond_both, and_parts, and_from, cases_eq, ltb-true, leb-true}
+use Rattle.std.proofs.lemmas.Bool.{false≢true, not-true, cond-true, cond-false, cond_both, and_parts, and_from, and_right, or_right, cases_eq, ltb-true, leb-true}
 use Rattle.std.proofs.lemmas.Nat.{pow_below}
 use Rattle.station.specs.declared.edge.Edge.{Edge}
 use Rattle.station.specs.declared.edge.Edge.TheVariants.{Press, Release, LongPress}
@@ -19,17 +19,9 @@ use Rattle.interface.specs.States.{decoded}
 use Rattle.buttons.specs.Buttons.{design as buttons_design}
 use Rattle.laws.specs.Pushing.{left_down, counts, PushMoves, ButtonsStay, PushIgnored, EveryKindWithButtons}
 
-or_true : (b : Bool) → (b || true) ≡ true
-or_true true = refl
-or_true false = refl
-
 or_false : (b : Bool) → (b || false) ≡ b
 or_false true = refl
 or_false false = refl
-
-and_false : (b : Bool) → (b && false) ≡ false
-and_false true = refl
-and_false false = refl
 
 and_true : (b : Bool) → (b && true) ≡ b
 and_true true = refl
@@ -38,10 +30,10 @@ and_true false = refl
 -- the pressed bits after an edge at a channel
 module _ (n c : ℕ) (low : 1 ≤ c) (high : c ≤ 8) where
   moved : (e : Edge) → possible e (down n c) ≡ true → down (after_edge e n (bit c)) c ≡ left_down e
-  moved Press h = has_set n (bit c) (c - 1) ∙ (ap (λ t. has_bit n (bit c) || t) (has_own (c - 1)) ∙ or_true (has_bit n (bit c)))
+  moved Press h = has_set n (bit c) (c - 1) ∙ (ap (λ t. has_bit n (bit c) || t) (has_own (c - 1)) ∙ or_right (has_bit n (bit c)) true refl)
   moved Release h =
       has_cleared n (bit c) (c - 1) (pow_below (c - 1) 8 (omega arith)) (omega arith)
-      ∙ (ap (λ t. has_bit n (bit c) && not t) (has_own (c - 1)) ∙ and_false (has_bit n (bit c)))
+      ∙ (ap (λ t. has_bit n (bit c) && not t) (has_own (c - 1)) ∙ and_right (has_bit n (bit c)) false refl)
   moved LongPress h = h
 
   others : (e : Edge) (d : ℕ) → 1 ≤ d → d ≤ 8 → (d ≡ c → ⊥) → down (after_edge e n (bit c)) d ≡ down n d

@@ -22,13 +22,14 @@ left_down Press = true
 left_down Release = false
 left_down LongPress = true
 
--- a push counts: it is at the own address and at one of eight channels, which is not locked, and the button can show the edge
+-- a push counts: it is at the own address and at one of eight channels, which is not locked, and the button can show the
+-- edge
 abbrev pub counts : (Record → ℕ → Bool) → ℕ → Record → Push → Bool
 counts is_locked own r p =
     p.address == own && (nat_lt 0 p.channel && (nat_le p.channel 8 && (not (is_locked r p.channel) && possible p.edge (is_down r p.channel))))
 
--- then one button status with the bit of the channel is sent; that button is as the edge leaves it, any other as it was; and so are
--- the lamps, in the first three state bytes
+-- then one button status with the bit of the channel is sent; that button is as the edge leaves it; any other is as it
+-- was, and so are the lamps, in the first three state bytes
 pub record ButtonMoves (own : ℕ) (r : Record) (p : Push) (o : Outcome) : Type 0 where
   pub told : o.sent ≡ message 0 own (status_bytes p.edge (bit p.channel)) ∷ []
   pub moved : is_down o.after p.channel ≡ left_down p.edge
