@@ -7,7 +7,7 @@ use Rattle.std.proofs.lemmas.Bool.{false≢true}
 use Rattle.bus.specs.declared.refusal.Refusal.{Refusal}
 use Rattle.bus.specs.Refusals.{number}
 use Rattle.house.specs.Faults.{Checks, first, OkUnless}
-use Rattle.house.specs.Calls.{put, push, second, step, clear, «record»}
+use Rattle.house.specs.declared.call.Call.TheVariants.{Put, Push, Second, Step, Clear, Record}
 use Rattle.house.specs.Turns.{checks, Rises, NumbersRise, SmallestFirst}
 
 -- what refuses, and what the value is then, can be said otherwise
@@ -32,12 +32,12 @@ smallest (c ∷ cs) h r e = by c.0 e (smallest cs h.1 r)
     by false p rest = ((λ f. absurd (false≢true f)), rest p)
 
 pub numbers_rise : NumbersRise
-numbers_rise ss q (put f) = search arith
-numbers_rise ss q (push a c e n) = search arith
-numbers_rise ss q (second n) = search arith
-numbers_rise ss q (step n) = search arith
-numbers_rise ss q clear = search arith
-numbers_rise ss q («record» a n) = tt
+numbers_rise ss q (Put f) = search arith
+numbers_rise ss q (Push a c e n) = search arith
+numbers_rise ss q (Second n) = search arith
+numbers_rise ss q (Step n) = search arith
+numbers_rise ss q Clear = search arith
+numbers_rise ss q (Record a n) = tt
 
 pub smallest_first : SmallestFirst
 smallest_first ss q c r e = smallest (checks ss q c) (numbers_rise ss q c) r e

@@ -6,9 +6,10 @@ use Rattle.bus.specs.declared.refusal.Refusal.{Refusal}
 use Rattle.station.specs.Kinds.{Seat}
 use Rattle.station.specs.declared.station.Station.{Ghosts}
 use Rattle.house.specs.declared.house.House.{House}
-use Rattle.house.specs.Calls.{Call, Answer}
+use Rattle.house.specs.declared.call.Call.{Call}
+use Rattle.house.specs.Answers.{Answer}
 use Rattle.house.specs.Faults.{first}
-use Rattle.house.specs.Turns.{checks, Turn, turn, written}
+use Rattle.house.specs.Turns.{Bus, checks, Turn, turn, written}
 
 module _ {S : Type 0} {G : Ghosts S} where
   -- the station
@@ -18,6 +19,9 @@ module _ {S : Type 0} {G : Ghosts S} where
   -- the pending frames, oldest first
   abbrev pub pending_of : House S G → List Frame
   pending_of h = deque_items h.pending
+
+  abbrev pub bus_of : (S → List Seat) → House S G → Bus
+  bus_of seats h = record { seats = seats (station_of h); pending = pending_of h }
 
   -- what comes of a call, over the seats of the house's station
   abbrev pub turn_of : (S → List Seat) → House S G → Call → Turn

@@ -1,4 +1,4 @@
 pub mod Faults
-pub mod Calls
+pub mod Answers
 pub mod Turns
 pub mod Houses

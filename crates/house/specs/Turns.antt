@@ -9,11 +9,13 @@ use Rattle.bus.specs.Refusals.{number}
 use Rattle.station.specs.declared.edge.Edge.{Edge}
 use Rattle.station.specs.declared.edge.Edge.TheVariants.{Press, Release, LongPress}
 use Rattle.station.specs.declared.event.Event.{Event}
-use Rattle.station.specs.declared.event.Event.TheVariants.{Heard, Second, Pushed}
+use Rattle.station.specs.declared.event.Event.TheVariants.{Heard, Second as ASecond, Pushed}
 use Rattle.station.specs.Kinds.{Seat}
 use Rattle.station.specs.Seats.{places, after_all, sent_all, count_at, first_buttons, first_byte}
 use Rattle.house.specs.Faults.{Checks, first, builder}
-use Rattle.house.specs.Calls.{Call, put, push, second, step, clear, «record», Answer, refused, accepted, counts, cleared, byte}
+use Rattle.house.specs.declared.call.Call.{Call}
+use Rattle.house.specs.declared.call.Call.TheVariants.{Put, Push, Second, Step, Clear, Record}
+use Rattle.house.specs.Answers.{Answer, refused, accepted, counts, cleared, byte}
 
 -- the edge of a number: 0 press, 1 release, 2 long press
 abbrev pub edge_of : ℕ → Edge
@@ -33,12 +35,12 @@ no_button ss address channel edge = ((channel == 0 || nat_lt (first_buttons addr
 
 -- what refuses a call, in order
 abbrev pub checks : List Seat → List Frame → Call → Checks
-checks ss q (put f) = builder ss ++ (not (well_formed f), IllFormedFrame) ∷ busy q ∷ []
-checks ss q (push a c e n) = acting ss n ++ (count_at a ss == 0, NoSuchSeat) ∷ no_button ss a c e ∷ busy q ∷ []
-checks ss q (second n) = acting ss n ++ busy q ∷ []
-checks ss q (step n) = acting ss n ++ (length q == 0, NothingPending) ∷ (nat_lt 256 ((length q - 1) + places ss), NoRoom) ∷ []
-checks ss q clear = builder ss
-checks ss q («record» a n) = []
+checks ss q (Put f) = builder ss ++ (not (well_formed f), IllFormedFrame) ∷ busy q ∷ []
+checks ss q (Push a c e n) = acting ss n ++ (count_at a ss == 0, NoSuchSeat) ∷ no_button ss a c e ∷ busy q ∷ []
+checks ss q (Second n) = acting ss n ++ busy q ∷ []
+checks ss q (Step n) = acting ss n ++ (length q == 0, NothingPending) ∷ (nat_lt 256 ((length q - 1) + places ss), NoRoom) ∷ []
+checks ss q Clear = builder ss
+checks ss q (Record a n) = []
 
 -- what comes of a call: its answer, the frames sent, and the seats and the pending frames after it
 pub record Turn : Type 0 where
@@ -63,12 +65,12 @@ stepped ss (f ∷ q) = acted (Heard f) ss q
 
 -- what comes of a call that is not refused
 abbrev pub served : List Seat → List Frame → Call → Turn
-served ss q (put f) = only accepted ss (q ++ f ∷ [])
-served ss q (push a c e n) = acted (Pushed (record { address = a; channel = c; edge = edge_of e })) ss q
-served ss q (second n) = acted Second ss q
-served ss q (step n) = stepped ss q
-served ss q clear = only (cleared (length q)) ss []
-served ss q («record» a n) = only (byte (first_byte a n ss)) ss q
+served ss q (Put f) = only accepted ss (q ++ f ∷ [])
+served ss q (Push a c e n) = acted (Pushed (record { address = a; channel = c; edge = edge_of e })) ss q
+served ss q (Second n) = acted ASecond ss q
+served ss q (Step n) = stepped ss q
+served ss q Clear = only (cleared (length q)) ss []
+served ss q (Record a n) = only (byte (first_byte a n ss)) ss q
 
 -- a refusal changes nothing
 abbrev pub decided : Option Refusal → List Seat → List Frame → Call → Turn
@@ -78,6 +80,15 @@ decided (Some r) ss q c = only (refused (number r)) ss q
 -- what comes of a call
 abbrev pub turn : List Seat → List Frame → Call → Turn
 turn ss q c = decided (first (checks ss q c)) ss q c
+
+-- the seats on a bus, and the frames that are pending on it
+pub record Bus : Type 0 where
+  pub seats : List Seat
+  pub pending : List Frame
+
+-- the bus after a call
+abbrev pub called : Call → Bus → Bus
+called c x = record { seats = (turn x.seats x.pending c).seats; pending = (turn x.seats x.pending c).pending }
 
 -- a buffer after frames were written to its front
 abbrev pub written : List Frame → List Frame → List Frame

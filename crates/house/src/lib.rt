@@ -2,6 +2,8 @@
 #![tactic(auto)]
 
 mod built;
+mod call;
 mod house;
 
+pub use call::Call;
 pub use house::{House, smallest_refusal_first};

@@ -1,9 +1,10 @@
 // A house whose calls are shown. The house makes a call before anything of it is printed, so a failure to print
 // changes nothing about what the call did.
 ghost use Rattle.std.specs.Prelude.{◌≡◌, ◌⊎◌, [], length, OnOk};
-ghost use Rattle.house.specs.Calls.{put, push, second, step};
-ghost use Rattle.house.specs.Houses.{pending_of};
-ghost use Rattle.trace.specs.Traces.{bus_of, called, steps, Stepped, Passed, PassedAtMost};
+ghost use Rattle.house.specs.declared.call.Call.TheVariants.{Put, Push, Second, Step};
+ghost use Rattle.house.specs.Houses.{pending_of, bus_of};
+ghost use Rattle.house.specs.Turns.{called};
+ghost use Rattle.trace.specs.Traces.{steps, Stepped, Passed, PassedAtMost};
 
 use bus::{Frame, Refusal};
 use house::House;
@@ -55,7 +56,7 @@ impl<S: Station + Drop> Trace<S> {
 
     // Puts a frame.
     pub fn put(&mut self, rt: &HostRuntime, frame: Frame) -> anyhow::Result<()>
-        ensures { bus_of S.seats self.new.house ≡ called (put frame) (bus_of S.seats self.old.house) }
+        ensures { bus_of S.seats self.new.house ≡ called (Put frame) (bus_of S.seats self.old.house) }
     {
         let answer = self.house.put(frame);
         self.tell_put(rt, frame, answer)
@@ -89,7 +90,7 @@ impl<S: Station + Drop> Trace<S> {
         channel: u8,
         edge: u8,
     ) -> anyhow::Result<()>
-        ensures { bus_of S.seats self.new.house ≡ called (push address channel edge 144) (bus_of S.seats self.old.house) }
+        ensures { bus_of S.seats self.new.house ≡ called (Push address channel edge 144) (bus_of S.seats self.old.house) }
     {
         let mut buffer = [Frame::default(); PLACES];
         let answer = self.house.push(address, channel, edge, &mut buffer);
@@ -105,7 +106,7 @@ impl<S: Station + Drop> Trace<S> {
 
     // Lets a second pass.
     pub fn second(&mut self, rt: &HostRuntime) -> anyhow::Result<()>
-        ensures { bus_of S.seats self.new.house ≡ called (second 144) (bus_of S.seats self.old.house) }
+        ensures { bus_of S.seats self.new.house ≡ called (Second 144) (bus_of S.seats self.old.house) }
     {
         let mut buffer = [Frame::default(); PLACES];
         let answer = self.house.second(&mut buffer);
@@ -130,7 +131,7 @@ impl<S: Station + Drop> Trace<S> {
 
     // Lets one of so many seconds pass, and then all frames; answers how many the second sent.
     fn pass_one(&mut self, rt: &HostRuntime, n: u32, seconds: u32) -> anyhow::Result<usize>
-        ensures { Stepped (called (second 144) (bus_of S.seats self.old.house)) (bus_of S.seats self.new.house) }
+        ensures { Stepped (called (Second 144) (bus_of S.seats self.old.house)) (bus_of S.seats self.new.house) }
     {
         let sent = self.nth_second(rt, n, seconds)?;
         self.settle(rt)?;
@@ -139,7 +140,7 @@ impl<S: Station + Drop> Trace<S> {
 
     // Lets one of so many seconds pass; it is shown only where it sends something or is refused.
     fn nth_second(&mut self, rt: &HostRuntime, n: u32, seconds: u32) -> anyhow::Result<usize>
-        ensures { bus_of S.seats self.new.house ≡ called (second 144) (bus_of S.seats self.old.house) }
+        ensures { bus_of S.seats self.new.house ≡ called (Second 144) (bus_of S.seats self.old.house) }
     {
         let mut buffer = [Frame::default(); PLACES];
         let outcome = self.house.second(&mut buffer);
@@ -167,7 +168,7 @@ impl<S: Station + Drop> Trace<S> {
 
     // Takes the frame that waited longest and lets the seats hear it.
     fn step(&mut self, rt: &HostRuntime) -> anyhow::Result<()>
-        ensures { bus_of S.seats self.new.house ≡ called (step 144) (bus_of S.seats self.old.house) }
+        ensures { bus_of S.seats self.new.house ≡ called (Step 144) (bus_of S.seats self.old.house) }
     {
         let mut buffer = [Frame::default(); PLACES];
         let answer = self.house.step(&mut buffer);

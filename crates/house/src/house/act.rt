@@ -2,7 +2,7 @@
 ghost use Rattle.std.specs.Prelude.{◌≡◌, ◌+◌, ◌≤◌, ◌++◌, length};
 ghost use Rattle.std.specs.VecDeque.{deque_len, deque_capacity};
 ghost use Rattle.station.specs.Seats.{places};
-ghost use Rattle.house.specs.Calls.{counts};
+ghost use Rattle.house.specs.Answers.{counts};
 ghost use Rattle.house.specs.Turns.{acted, written};
 ghost use Rattle.house.specs.Houses.{station_of, pending_of, TakesTurn};
 

@@ -1,6 +1,7 @@
 // The calls of a house. A call answers what it did, or the first refusal that applies; a refusal changes nothing.
 ghost use Rattle.std.specs.Prelude.{◌≡◌, [], length, IfOk, IfErr};
-ghost use Rattle.house.specs.Calls.{put, push, second, step, shown_put, shown_counts};
+ghost use Rattle.house.specs.declared.call.Call.TheVariants.{Put, Push, Second, Step, Clear, Record};
+ghost use Rattle.house.specs.Answers.{byte, shown_put, shown_counts, shown_clear};
 ghost use Rattle.house.specs.Houses.{station_of, pending_of, turn_of, TakesTurn};
 
 use super::House;
@@ -40,7 +41,7 @@ impl<S: Station> House<S> {
 
     // Puts a frame on the bus.
     pub fn put(&mut self, frame: Frame) -> Result<(), Refusal>
-        ensures { TakesTurn S.seats (turn_of S.seats self.old (put frame)) (shown_put result) self.new [] [] }
+        ensures { TakesTurn S.seats (turn_of S.seats self.old (Put frame)) (shown_put result) self.new [] [] }
     {
         self.check_put(&frame)?;
         self.pending.push_back_reserved(frame);
@@ -56,7 +57,7 @@ impl<S: Station> House<S> {
         edge: u8,
         buffer: &mut [Frame],
     ) -> Result<(usize, usize), Refusal>
-        ensures { TakesTurn S.seats (turn_of S.seats self.old (push address channel edge (length buffer.old))) (shown_counts result) self.new buffer.old buffer.new }
+        ensures { TakesTurn S.seats (turn_of S.seats self.old (Push address channel edge (length buffer.old))) (shown_counts result) self.new buffer.old buffer.new }
     {
         let push = self.check_push(address, channel, edge, buffer.len())?;
         Ok(self.act(Event::Pushed(push), buffer))
@@ -65,7 +66,7 @@ impl<S: Station> House<S> {
     // A second passes for every seat. Frames are written to the caller's buffer and their number is answered, since calls
     // take no memory.
     pub fn second(&mut self, buffer: &mut [Frame]) -> Result<(usize, usize), Refusal>
-        ensures { TakesTurn S.seats (turn_of S.seats self.old (second (length buffer.old))) (shown_counts result) self.new buffer.old buffer.new }
+        ensures { TakesTurn S.seats (turn_of S.seats self.old (Second (length buffer.old))) (shown_counts result) self.new buffer.old buffer.new }
     {
         self.check_second(buffer.len())?;
         Ok(self.act(Event::Second, buffer))
@@ -73,10 +74,27 @@ impl<S: Station> House<S> {
 
     // Takes the frame that waited longest and lets the seats hear it.
     pub fn step(&mut self, buffer: &mut [Frame]) -> Result<(usize, usize), Refusal>
-        ensures { TakesTurn S.seats (turn_of S.seats self.old (step (length buffer.old))) (shown_counts result) self.new buffer.old buffer.new }
+        ensures { TakesTurn S.seats (turn_of S.seats self.old (Step (length buffer.old))) (shown_counts result) self.new buffer.old buffer.new }
     {
         self.check_step(buffer.len())?;
         let frame = self.pending.pop_front().ok_or(Refusal::NothingPending)?;
         Ok(self.act(Event::Heard(frame), buffer))
+    }
+
+    // Removes all pending frames; answers how many they were.
+    pub fn clear(&mut self) -> Result<usize, Refusal>
+        ensures { TakesTurn S.seats (turn_of S.seats self.old Clear) (shown_clear result) self.new [] [] }
+    {
+        self.built.seats?;
+        let removed = self.pending.len();
+        self.pending.clear();
+        Ok(removed)
+    }
+
+    // The byte at a place of the record of the first seat at an address, if there is one. Nothing refuses it.
+    pub fn record(&self, address: u8, place: usize) -> Option<u8>
+        ensures { TakesTurn S.seats (turn_of S.seats self.now (Record address place)) (byte result) self.now [] [] }
+    {
+        self.built.station.byte(address, place)
     }
 }

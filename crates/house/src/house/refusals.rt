@@ -1,6 +1,6 @@
 // What refuses each call, in order.
 ghost use Rattle.std.specs.Prelude.{[], ◌∷◌, length};
-ghost use Rattle.house.specs.Calls.{put, push, second, step};
+ghost use Rattle.house.specs.declared.call.Call.TheVariants.{Put, Push as PushCall, Second, Step};
 ghost use Rattle.house.specs.Faults.{first, OkUnless};
 ghost use Rattle.house.specs.Turns.{acting, busy, edge_of, NumbersRise, SmallestFirst};
 ghost use Rattle.house.specs.Houses.{station_of, pending_of, refusal_of};
@@ -12,7 +12,7 @@ use station::{Edge, Push, Station};
 impl<S: Station> House<S> {
     // Whether the frame may be put.
     pub(super) fn check_put(&self, frame: &Frame) -> Result<(), Refusal>
-        ensures { OkUnless result (refusal_of S.seats self.now (put frame.now)) tt }
+        ensures { OkUnless result (refusal_of S.seats self.now (Put frame.now)) tt }
     {
         self.built.seats?;
         if !frame.is_well_formed() {
@@ -29,7 +29,7 @@ impl<S: Station> House<S> {
         edge: u8,
         places: usize,
     ) -> Result<Push, Refusal>
-        ensures { OkUnless result (refusal_of S.seats self.now (push address channel edge places)) (record { address = address; channel = channel; edge = edge_of edge }) }
+        ensures { OkUnless result (refusal_of S.seats self.now (PushCall address channel edge places)) (record { address = address; channel = channel; edge = edge_of edge }) }
     {
         self.seats_to_act(places)?;
         if self.built.station.standing(address) == 0 {
@@ -49,7 +49,7 @@ impl<S: Station> House<S> {
 
     // Whether a second may pass with that many places.
     pub(super) fn check_second(&self, places: usize) -> Result<(), Refusal>
-        ensures { OkUnless result (refusal_of S.seats self.now (second places)) tt }
+        ensures { OkUnless result (refusal_of S.seats self.now (Second places)) tt }
     {
         self.seats_to_act(places)?;
         self.check_quiet()
@@ -57,7 +57,7 @@ impl<S: Station> House<S> {
 
     // Whether a step may be made with that many places.
     pub(super) fn check_step(&self, places: usize) -> Result<(), Refusal>
-        ensures { OkUnless result (refusal_of S.seats self.now (step places)) tt }
+        ensures { OkUnless result (refusal_of S.seats self.now (Step places)) tt }
     {
         let seats = self.seats_to_act(places)?;
         let pending = self.pending();

@@ -1,4 +1,5 @@
-use Rattle.trace.specs.Traces.{bus_of, Passed}
+use Rattle.house.specs.Houses.{bus_of}
+use Rattle.trace.specs.Traces.{Passed}
 use Rattle.trace.proofs.trace.Trace.pass.Given as goal
 
 -- as many seconds as turns

@@ -1,5 +1,6 @@
 use Rattle.std.proofs.Common.{◌≡◌}
-use Rattle.trace.specs.Traces.{bus_of, steps}
+use Rattle.house.specs.Houses.{bus_of}
+use Rattle.trace.specs.Traces.{steps}
 use Rattle.trace.proofs.trace.Trace.settle.Given as goal
 
 -- as many steps as turns

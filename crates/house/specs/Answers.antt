@@ -1,17 +1,7 @@
--- The calls of a house and their answers, by number and by value. Assumes nothing.
+-- What a call of a house answers, by number and by value. Assumes nothing.
 use Rattle.std.specs.Prelude.{ℕ, Ok, Err, Option, Result}
-use Rattle.bus.specs.declared.frame.Frame.{Frame}
 use Rattle.bus.specs.declared.refusal.Refusal.{Refusal}
 use Rattle.bus.specs.Refusals.{number}
-
--- a call with its arguments; of a buffer that is handed in, how many places it has
-pub data Call : Type 0 where
-  put : Frame → Call
-  push : (address channel edge places : ℕ) → Call
-  second : (places : ℕ) → Call
-  step : (places : ℕ) → Call
-  clear : Call
-  «record» : (address place : ℕ) → Call
 
 -- what a call answers: the number of a refusal, plain consent, how many frames were sent and are pending, how many
 -- were cleared, or a byte of a record if there is one
