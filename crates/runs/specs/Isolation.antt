@@ -1,0 +1,80 @@
+-- The law of isolation: a group of addresses with no link across its border does what it does, whatever else is seated.
+-- Assumes nothing.
+use Rattle.std.specs.Prelude.{◌≡◌, ℕ, Bool, true, false, ◌&&◌, ◌||◌, List, [], ◌∷◌, map, filter, ◌==◌}
+use Rattle.std.specs.List.{AllByRecursion, flat_map, list_any}
+use Rattle.bus.specs.declared.frame.Frame.{Frame}
+use Rattle.station.specs.Kinds.{Seat, links}
+use Rattle.station.specs.Rules.{Lawful}
+use Rattle.house.specs.declared.call.Call.{Call}
+use Rattle.house.specs.declared.call.Call.TheVariants.{Put, Push, Second, Step, Clear, Record}
+use Rattle.house.specs.Answers.{cleared}
+use Rattle.house.specs.Turns.{Bus, called}
+use Rattle.runs.specs.Runs.{Entry, Run, quiet, is_served}
+
+-- some seat at the address b links c
+abbrev pub link : List Seat → ℕ → ℕ → Bool
+link ss b c = list_any (λ s. s.address == b && links s.kind s.address s.content c) ss
+
+-- no link crosses the border of a set of addresses
+abbrev pub Uncrossed : (ℕ → Bool) → List Seat → Type 0
+Uncrossed g ss = (b c : ℕ) → link ss b c ≡ true → g b ≡ g c
+
+-- a fact holds of the seats at the start of a run and after every entry
+abbrev pub Always : (List Seat → Type 0) → Bus → List Entry → Type 0
+Always P x [] = P x.seats
+Always P x (e ∷ es) = P x.seats × Always P (called e.call x) es
+
+-- the seats of a group, in order
+abbrev pub seats_of : (ℕ → Bool) → List Seat → List Seat
+seats_of g ss = filter (λ s. g s.address) ss
+
+-- the frames that bear an address of the group, in order
+abbrev pub frames_of : (ℕ → Bool) → List Frame → List Frame
+frames_of g fs = filter (λ f. g f.address) fs
+
+-- a call that concerns the group: a put of a frame that bears 0 or an address of it, a push at an address of it, every
+-- second, and nothing else
+abbrev pub concerns : (ℕ → Bool) → Call → Bool
+concerns g (Put f) = f.address == 0 || g f.address
+concerns g (Push a c e n) = g a
+concerns g (Second n) = true
+concerns g (Step n) = false
+concerns g Clear = false
+concerns g (Record a n) = false
+
+-- a call but for the length of its buffer
+abbrev pub asked : Call → Call
+asked (Put f) = Put f
+asked (Push a c e n) = Push a c e 0
+asked (Second n) = Second 0
+asked (Step n) = Step 0
+asked Clear = Clear
+asked (Record a n) = Record a n
+
+-- the served calls that concern the group, in order
+abbrev pub concerning : (ℕ → Bool) → List Entry → List Call
+concerning g es = map (λ e. asked e.call) (filter (λ e. is_served e.answer && concerns g e.call) es)
+
+-- the frames that were sent, in order
+abbrev pub all_sent : List Entry → List Frame
+all_sent es = flat_map (λ e. e.sent) es
+
+-- no frame was lost: each served clear answered 0
+abbrev pub ClearsNothing : List Entry → Type 0
+ClearsNothing es = AllByRecursion (λ e. (n : ℕ) → e.answer ≡ cleared n → n ≡ 0) es
+
+-- a run from a new, quiet house that ends quiet, in which no link ever crosses the group's border and no clear removes a
+-- frame
+pub record Apart (g : ℕ → Bool) (start : List Seat) (es : List Entry) (end : List Seat) : Type 0 where
+  pub run : Run (quiet start) es (quiet end)
+  pub border : Always (Uncrossed g) (quiet start) es
+  pub clears : ClearsNothing es
+
+-- against every other list of seats that keeps the rules, and every run over each of both: if the seats of a group are
+-- the same at the start, and the same calls that concern it were served, then its seats are the same at the end, and the
+-- frames that bore its addresses were the same
+abbrev pub IsolationLaw : List Seat → Type 0
+IsolationLaw ss =
+    (other : List Seat) → AllByRecursion Lawful other → (g : ℕ → Bool) → seats_of g ss ≡ seats_of g other →
+    (es fs : List Entry) (end last : List Seat) → Apart g ss es end → Apart g other fs last → concerning g es ≡ concerning g fs →
+    (seats_of g end ≡ seats_of g last) × (frames_of g (all_sent es) ≡ frames_of g (all_sent fs))

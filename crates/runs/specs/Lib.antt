@@ -1,0 +1,4 @@
+pub mod Runs
+pub mod Ledgers
+pub mod Memory
+pub mod Isolation
