@@ -2,3 +2,4 @@ pub mod Runs
 pub mod Ledgers
 pub mod Memory
 pub mod Isolation
+pub mod Replays

@@ -1,0 +1,50 @@
+// How a call is made that is given as a value.
+ghost use Rattle.std.specs.Prelude.{◌≡◌, length};
+ghost use Rattle.house.specs.Houses.{turn_of, TakesTurn};
+ghost use Rattle.runs.specs.Replays.{places_of, shown_reply};
+ghost use Rattle.house.specs.Answers.{shown_counts};
+
+use crate::entry::Reply;
+use bus::{Frame, Refusal};
+use house::{Call, House};
+use station::Station;
+
+// How many places the call's buffer has.
+pub(crate) fn places(call: Call) -> usize
+    ensures { result ≡ places_of call }
+{
+    match call {
+        Call::Push { places, .. } | Call::Second { places } | Call::Step { places } => places,
+        Call::Put(_) | Call::Clear | Call::Record { .. } => 0,
+    }
+}
+
+// Makes the call, with a buffer that has the places which the call says.
+pub(crate) fn perform<S: Station>(
+    house: &mut House<S>,
+    call: Call,
+    buffer: &mut [Frame],
+) -> Result<Reply, Refusal>
+    requires { length buffer.old ≡ places_of call }
+    ensures { TakesTurn S.seats (turn_of S.seats house.old call) (shown_reply result) house.new buffer.old buffer.new }
+{
+    match call {
+        Call::Put(frame) => {
+            house.put(frame)?;
+            Ok(Reply::Accepted)
+        }
+        Call::Push { address, channel, edge, .. } => counts(house.push(address, channel, edge, buffer)),
+        Call::Second { .. } => counts(house.second(buffer)),
+        Call::Step { .. } => counts(house.step(buffer)),
+        Call::Clear => Ok(Reply::Cleared(house.clear()?)),
+        Call::Record { address, place } => Ok(Reply::Byte(house.record(address, place))),
+    }
+}
+
+// A pair of counts as a reply.
+fn counts(outcome: Result<(usize, usize), Refusal>) -> Result<Reply, Refusal>
+    ensures { shown_reply result ≡ shown_counts outcome }
+{
+    let (sent, pending) = outcome?;
+    Ok(Reply::Counts { sent, pending })
+}
