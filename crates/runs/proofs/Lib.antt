@@ -1,2 +1,6 @@
-pub mod Making
+pub mod Alone
 pub mod Bytes
+pub mod Grouped
+pub mod Isolated
+pub mod Making
+pub mod Remembered
