@@ -80,8 +80,8 @@ pub last_more : (own size n : ℕ) (fs : List Frame) (f : Frame) (first b new : 
 last_more own size n fs f first b new h left = by (left_in own size n f) refl left h
   where
     by : (o : Option ℕ) → left_in own size n f ≡ o → IsLeft o b new → LastLeft own size n fs first b → LastLeft own size n (fs ++ f ∷ []) first new
-    by (Some c) e l k = inl (fs, (f, ([], (refl, (e ∙ ap Some (sym l), tt)))))
-    by None e l (inl (before, (g, (later, (split, (wrote, quiet)))))) =
+    by (Some c) e l k = inl (fs, f, [], refl, e ∙ ap Some (sym l), tt)
+    by None e l (inl (before, g, later, split, wrote, quiet)) =
         let longer : fs ++ f ∷ [] ≡ before ++ g ∷ (later ++ f ∷ []) = ap (λ t. t ++ f ∷ []) split ∙ append_assoc before (g ∷ later) (f ∷ []) in
-        inl (before, (g, (later ++ f ∷ [], (longer, (wrote ∙ ap Some (sym l), All-append (λ x. left_in own size n x ≡ None) later (f ∷ []) quiet (e, tt))))))
+        inl (before, g, later ++ f ∷ [], longer, wrote ∙ ap Some (sym l), All-append (λ x. left_in own size n x ≡ None) later (f ∷ []) quiet (e, tt))
     by None e l (inr (quiet, same)) = inr (All-append (λ x. left_in own size n x ≡ None) fs (f ∷ []) quiet (e, tt), l ∙ same)

@@ -4,3 +4,4 @@ pub mod Grouped
 pub mod Isolated
 pub mod Making
 pub mod Remembered
+pub mod Stations

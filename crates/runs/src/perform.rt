@@ -33,7 +33,12 @@ pub(crate) fn perform<S: Station>(
             house.put(frame)?;
             Ok(Reply::Accepted)
         }
-        Call::Push { address, channel, edge, .. } => counts(house.push(address, channel, edge, buffer)),
+        Call::Push {
+            address,
+            channel,
+            edge,
+            ..
+        } => counts(house.push(address, channel, edge, buffer)),
         Call::Second { .. } => counts(house.second(buffer)),
         Call::Step { .. } => counts(house.step(buffer)),
         Call::Clear => Ok(Reply::Cleared(house.clear()?)),

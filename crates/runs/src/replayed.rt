@@ -36,8 +36,8 @@ pub fn replay<S: Station>(
 ) -> Result<Replayed<S>, Unfinished<S>>
     ensures done { IfOk result (Ran S.seats station calls.now) }
     ensures unfinished { IfErr result (LeftOff S.seats station calls.now) }
-//    ensures memory { MemoryLaw (S.seats station) }
-//    ensures isolation { IsolationLaw (S.seats station) }
+    ensures memory { MemoryLaw (S.seats station) }
+    ensures isolation { IsolationLaw (S.seats station) }
 {
     let house = match House::new(heap, station) {
         Ok(house) => house,

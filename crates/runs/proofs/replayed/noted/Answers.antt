@@ -1,4 +1,4 @@
-use Rattle.std.proofs.Common.{ap, ◌∙◌, take, drop, length, ◌++◌, ◌≡◌, arith, sym}
+use Rattle.std.proofs.Common.{ap, ◌∙◌, take, drop, length, ◌++◌, ◌≡◌, arith}
 use Rattle.std.proofs.Math.Seq.{take-append_seam}
 use Rattle.house.specs.Houses.{bus_of}
 use Rattle.house.specs.Turns.{turn}
@@ -14,10 +14,10 @@ returns-clause-entry c k =
     let old = k.args.buffer.items in
     let full : k.args.buffer.len ≡ length new = search (arith, k.perform-answer.auto.buffer, k.as_mut_slice.ensures.len) in
     let kept : k.truncate.new.self.items ≡ (turn x.seats x.pending k.args.call).sent =
-      k.truncate.ensures.items
-        ∙ ap (λ n. take k.number_sent.result (take n (new ++ drop (length new) old))) full
-        ∙ ap (take k.number_sent.result) (take-append_seam new (drop (length new) old))
-        ∙ ap (λ n. take n new) (k.number_sent.ensures ∙ ap sent_number told.answer)
-        ∙ ap (take _) told.buffer
-        ∙ sent_kept x.seats x.pending k.args.call _ in
+    k.truncate.ensures.items
+    ∙ ap (λ n. take k.number_sent.result (take n (new ++ drop (length new) old))) full
+    ∙ ap (take k.number_sent.result) (take-append_seam new (drop (length new) old))
+    ∙ ap (λ n. take n new) (k.number_sent.ensures ∙ ap sent_number told.answer)
+    ∙ ap (take _) told.buffer
+    ∙ sent_kept x.seats x.pending k.args.call _ in
     λ i. record { call = k.args.call; answer = told.answer i; sent = kept i }
