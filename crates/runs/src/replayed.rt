@@ -29,6 +29,7 @@ pub enum Unfinished<S: Station> {
 }
 
 // Makes the calls one after the other on a new house over the station.
+#[tactic(auto, using(crate::proofs::Stations::memory_stands))]
 pub fn replay<S: Station>(
     heap: Global,
     station: S,
@@ -70,7 +71,6 @@ impl<S: Station> Replayed<S> {
 }
 
 // Makes the call, with a buffer that has the places which the call says. Of the buffer, the frames sent are kept.
-#[tactic(auto, using(crate::proofs::Making::sent_kept))]
 fn noted<S: Station>(house: &mut House<S>, call: Call, mut buffer: Vec<Frame>) -> Entry
     requires { length buffer.items ≡ places_of call }
     ensures entry { shown_entry result ≡ entry (bus_of S.seats house.old) call }

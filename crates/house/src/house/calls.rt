@@ -86,7 +86,7 @@ impl<S: Station> House<S> {
         ensures { TakesTurn S.seats (turn_of S.seats self.old Clear) (shown_clear result) self.new [] [] }
     {
         self.built.seats?;
-        let removed = self.pending.len();
+        let removed = self.pending();
         self.pending.clear();
         Ok(removed)
     }
