@@ -1,5 +1,5 @@
 -- Which seats link nothing across the border of the group. Assumes nothing.
-use Rattle.std.proofs.Common.{replicate, ◌≡◌, ℕ, zero, suc, ◌<◌, ◌≤◌, Bool, true, false, cond, not, ◌||◌, List, [], ◌∷◌, is_some, Some, None, ◌==◌, nat_le, nat_lt, ◌&&◌, slice_index, sym, refl, ap, ◌∙◌, inl, inr, arith}
+use Rattle.std.proofs.Common.{replicate, ◌≡◌, ℕ, zero, suc, ◌<◌, Bool, true, false, cond, not, ◌||◌, List, [], ◌∷◌, is_some, Some, None, ◌==◌, nat_le, nat_lt, ◌&&◌, slice_index, sym, refl, ap, ◌∙◌, inl, inr, arith}
 use Rattle.std.specs.List.{AllByRecursion}
 use Rattle.std.proofs.lemmas.Bool.{and_parts, or_cases, or_parts, cases_Bool, eqb-true, ltb-true, leb-true, both_ways, false≢true}
 use Rattle.module.specs.Searches.{first}
@@ -26,6 +26,7 @@ module _ (t w : ℕ → Bool) (weaker : (p : ℕ) → t p ≡ true → w p ≡ t
       by false true f l k = refl
       by false false f l k = k l
 
+-- on one side of the border
 abbrev same : Bool → Bool → Bool
 same true b = b
 same false b = not b
@@ -40,14 +41,15 @@ same_eq false false h = refl
 abbrev fine : Bool → ℕ → Bool
 fine side a = nat_le 255 a || same side (group a)
 
--- the address of a pair is neither
+-- the address of pair p of channel c is neither
 abbrev stray : Bool → List ℕ → ℕ → ℕ → Bool
 stray side cells c p = not (fine side (slice_index cells (pair_cell c p)))
 
+-- some pair of channel c has such an address
 abbrev stray_in : Bool → List ℕ → ℕ → Bool
 stray_in side cells c = is_some (first (stray side cells c) 0 120)
 
--- some address of a relay's pairs is; it is not computed where a run is
+-- some pair of the cells has such an address. This is no abbreviation, so that it is computed only where it is wanted
 pub some_stray : Bool → List ℕ → Bool
 some_stray side cells = stray_in side cells 0 || (stray_in side cells 1 || (stray_in side cells 2 || stray_in side cells 3))
 
@@ -59,10 +61,10 @@ module _ (side : Bool) (cells : List ℕ) (a : ℕ) where
       elim (cases_Bool (fine side a)) [
         | inl e ↦ e
         | inr e ↦
-          let matched : (p : ℕ) → matches cells c q p ≡ true → stray side cells c p ≡ true = λ p m.
-          let rest = and_parts (at p == a) true (and_parts (not (table p == 3)) (at p == a && true) m).1 in
-          ap (λ x. not (fine side x)) (eqb-true (at p) a rest.0) ∙ ap not e in
-          absurd (both_ways (stray_in side cells c) none (found_too (matches cells c q) (stray side cells c) matched 0 120 h))
+            let matched : (p : ℕ) → matches cells c q p ≡ true → stray side cells c p ≡ true = λ p m.
+            let rest = and_parts (at p == a) true (and_parts (not (table p == 3)) (at p == a && true) m).1 in
+            ap (λ x. not (fine side x)) (eqb-true (at p) a rest.0) ∙ ap not e in
+            absurd (both_ways (stray_in side cells c) none (found_too (matches cells c q) (stray side cells c) matched 0 120 h))
       ]
 
   fine_named : some_stray side cells ≡ false → named cells a ≡ true → fine side a ≡ true
@@ -74,10 +76,10 @@ module _ (side : Bool) (cells : List ℕ) (a : ℕ) where
       elim (or_cases (named_in cells 0 a) _ h) [
         | inl l ↦ fine_in 0 one.0 l
         | inr r ↦
-          elim (or_cases (named_in cells 1 a) _ r) [
-            | inl l ↦ fine_in 1 two.0 l
-            | inr s ↦ elim (or_cases (named_in cells 2 a) _ s) [ inl l ↦ fine_in 2 three.0 l | inr l ↦ fine_in 3 three.1 l ]
-          ]
+            elim (or_cases (named_in cells 1 a) _ r) [
+              | inl l ↦ fine_in 1 two.0 l
+              | inr s ↦ elim (or_cases (named_in cells 2 a) _ s) [ inl l ↦ fine_in 2 three.0 l | inr l ↦ fine_in 3 three.1 l ]
+            ]
       ]
 
 -- the seat links nothing across the border
@@ -107,7 +109,7 @@ uncrossed (s ∷ ss) h b c e =
       | inr r ↦ uncrossed ss h.1 b c r
     ]
 
--- new cells, and those with a link on the own side
+-- new cells have no such pair, and the linked ones neither
 abbrev pub new_cells : List ℕ
 new_cells = replicate 1024 255
 

@@ -1,9 +1,10 @@
 -- Runs that are made of shorter ones. Assumes nothing.
-use Rattle.std.proofs.Common.{◌≡◌, Bool, true, ◌==◌, List, [], ◌∷◌, ◌++◌, sym, subst, ap, ◌∙◌}
+use Rattle.std.proofs.Common.{◌≡◌, Bool, true, ◌==◌, List, [], ◌∷◌, ◌++◌, refl, sym, subst, ap, ◌∙◌}
 use Rattle.std.specs.List.{list_all}
 use Rattle.std.proofs.lemmas.Bool.{and_parts, eqb-true}
 use Rattle.house.specs.Answers.{Answer, refused, accepted, counts, cleared, byte}
 use Rattle.station.specs.Kinds.{Seat}
+use Rattle.house.specs.declared.call.Call.{Call}
 use Rattle.house.specs.Turns.{Bus, called}
 use Rattle.runs.specs.Runs.{Entry, entry, Run}
 use Rattle.runs.specs.Isolation.{Always, ClearsNothing}
@@ -28,6 +29,13 @@ module _ (P : List Seat → Type 0) where
   always_by : (Q : List Seat → Type 0) → ((ss : List Seat) → P ss → Q ss) → (es : List Entry) (x y : Bus) → Steps P x es y → Always Q x es
   always_by Q f [] x y h = f x.seats h.1
   always_by Q f (e ∷ es) x y h = (f x.seats h.1, always_by Q f es (called e.call x) y h.2)
+
+-- a course of one entry more in front, and of none
+pub then : {P : List Seat → Type 0} {c : Call} {es : List Entry} {x y : Bus} → P x.seats → Course P (called c x) es y → Course P x (entry x c ∷ es) y
+then h k = record { steps = (refl, h, k.steps) }
+
+pub done : {P : List Seat → Type 0} {x : Bus} → P x.seats → Course P x [] x
+done h = record { steps = (refl, h) }
 
 pub joined : {P : List Seat → Type 0} {es fs : List Entry} {x y z : Bus} → Course P x es y → Course P y fs z → Course P x (es ++ fs) z
 joined {P} {es} {fs} {x} {y} {z} h k = record { steps = join P es fs x y z h.steps k.steps }
