@@ -1,0 +1,3 @@
+mod Borders
+mod Runs
+mod Worked

@@ -1,0 +1,12 @@
+// Worked runs that meet every premise of the laws of memory and of isolation.
+#![tactic(auto)]
+
+ghost use Rattle.worked.specs.WorkedRun.{PremisesMet, MuchHappens};
+
+// The premises can be met, by runs in which much happens.
+pub fn laws_are_met() -> u8
+    ensures premises { PremisesMet }
+    ensures happens { MuchHappens }
+{
+    0
+}
