@@ -4,4 +4,4 @@
 mod built;
 mod house;
 
-pub use house::{House, smallest_refusal_first};
+pub use house::{House, smallest_group_refusal_first, smallest_refusal_first};
