@@ -1,7 +1,7 @@
 -- What follows from an address's place in a group. Assumes nothing.
 use Rattle.std.proofs.Common.{◌≡◌, ℕ, Bool, true, List, take, sym, ◌∙◌}
 use Rattle.std.proofs.lemmas.List.Elements.{All-weaker}
-use Rattle.groups.specs.Links.{link, Uncrossed, Belongs, itself, linked_by, links_to, InGroup, Lists, OwnGroup, ClosedGroup, SmallestGroup}
+use Rattle.groups.specs.Links.{link, Belongs, itself, linked_by, links_to, Lists, OwnGroup, ClosedGroup, SmallestGroup}
 
 -- links told in another way give the same group
 pub told_otherwise : (r q : ℕ → ℕ → Bool) (e : (b c : ℕ) → q b c ≡ r b c) (a b : ℕ) → Belongs r a b → Belongs q a b

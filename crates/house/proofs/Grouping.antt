@@ -1,15 +1,15 @@
 -- Where the builder made no fault, the group that was found is the group among all seats. Assumes nothing.
-use Rattle.std.proofs.Common.{◌≡◌, ℕ, zero, suc, ◌+◌, ◌<◌, ◌≤◌, Bool, true, false, cond, not, ◌&&◌, ◌||◌, eqb, ltb, List, [], ◌∷◌, length, Some, None, Option, refl, sym, ap, ◌∙◌, arith}
+use Rattle.std.proofs.Common.{◌≡◌, ℕ, zero, suc, ◌<◌, ◌≤◌, Bool, true, false, List, [], ◌∷◌, length, Some, None, Option, refl, sym, ◌∙◌, arith}
 use Rattle.std.specs.List.{AllByRecursion}
 use Rattle.std.specs.Option.{ok_or}
-use Rattle.std.proofs.lemmas.Bool.{and_left, and_right, or_parts, and_parts, false≢true}
+use Rattle.std.proofs.lemmas.Bool.{false≢true}
 use Rattle.std.proofs.lemmas.Bool.Decides.{nat_tests}
 use Rattle.bus.specs.declared.refusal.Refusal.TheVariants.{ShortBuffer}
-use Rattle.station.specs.Kinds.{Seat, links}
+use Rattle.station.specs.Kinds.{Seat}
 use Rattle.station.specs.Rules.{Sound}
-use Rattle.station.specs.Seats.{count_at, first_links}
-use Rattle.groups.specs.Links.{link, Belongs, InGroup, Lists, ListsGroup}
-use Rattle.groups.specs.Marks.{first_link, marked, usable, MarksGroup, ListsUsable}
+use Rattle.station.specs.Seats.{count_at}
+use Rattle.groups.specs.Links.{link, InGroup, Lists, ListsGroup}
+use Rattle.groups.specs.Marks.{first_link, usable, MarksGroup, ListsUsable}
 use Rattle.groups.proofs.Members.{told_otherwise, every_member, listed_otherwise}
 use Rattle.house.specs.Faults.{bad_address, address_twice}
 use Rattle.house.specs.Groups.{group_refusal, AnswersGroup}

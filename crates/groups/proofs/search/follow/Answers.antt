@@ -1,5 +1,5 @@
-use Rattle.std.proofs.Common.{◌≡◌, ◌<◌, ◌||◌, length, set, ◌∙◌, arith, length-set}
-use Rattle.groups.specs.Marks.{first_link, marked, touches}
+use Rattle.std.proofs.Common.{◌∙◌, arith, length-set}
+use Rattle.groups.specs.Marks.{first_link}
 use Rattle.groups.proofs.Searching.{follow_more, follow_left}
 use Rattle.groups.proofs.search.follow.Goals as goal
 

@@ -1,4 +1,4 @@
-use Rattle.std.proofs.Common.{◌<◌, arith}
+use Rattle.std.proofs.Common.{arith}
 use Rattle.groups.specs.Marks.{first_link}
 use Rattle.groups.proofs.Searching.{searching_none, searching_more, searching_done, fewer, bytes_linked}
 use Rattle.groups.proofs.group.Group.new.Goals as goal
