@@ -1,2 +1,3 @@
 pub mod Builders
 pub mod Checking
+pub mod Grouping

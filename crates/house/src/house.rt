@@ -5,10 +5,12 @@ ghost use Rattle.bus.specs.Outboxes.{room};
 
 mod act;
 mod calls;
+mod group;
 mod refusals;
 
 use crate::built::Built;
 use bus::{Frame, Outbox};
+pub use group::smallest_group_refusal_first;
 pub use refusals::smallest_refusal_first;
 use station::Station;
 use std::collections::VecDeque;

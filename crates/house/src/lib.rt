@@ -6,4 +6,4 @@ mod call;
 mod house;
 
 pub use call::Call;
-pub use house::{House, smallest_refusal_first};
+pub use house::{House, smallest_group_refusal_first, smallest_refusal_first};

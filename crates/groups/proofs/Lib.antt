@@ -1,0 +1,3 @@
+pub mod Below
+pub mod Members
+pub mod Searching
