@@ -34,6 +34,7 @@ silent r = record { after = r; sent = [] }
 abbrev pub struck : ℕ → ℕ → ℕ → Record → Outcome
 struck tone own n r = record { after = r; sent = replicate n (stroke tone own) }
 
+-- a press, and no other edge
 abbrev pub is_press : Edge → Bool
 is_press Press = true
 is_press Release = false
