@@ -11,7 +11,8 @@ use Rattle.station.specs.Kinds.{Seat, links, is_status, reaches, after, sent}
 use Rattle.station.specs.Rules.{Bears, Rules, Lawful}
 use Rattle.station.specs.Seats.{after_all, sent_all}
 use Rattle.house.specs.Faults.{bad_address}
-use Rattle.runs.specs.Isolation.{Uncrossed, seats_of, frames_of}
+use Rattle.groups.specs.Links.{link, Uncrossed}
+use Rattle.runs.specs.Isolation.{seats_of, frames_of}
 
 -- a seat not at address 0 that keeps the rules now and links no address across the border
 pub record Kept (g : ℕ → Bool) (s : Seat) : Type 0 where

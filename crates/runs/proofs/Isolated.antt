@@ -17,7 +17,8 @@ use Rattle.house.specs.Answers.{cleared}
 use Rattle.house.specs.Faults.{Checks, first, bad_address}
 use Rattle.house.specs.Turns.{Turn, Bus, acted, served, decided, checks, turn, called}
 use Rattle.runs.specs.Runs.{Entry, Run, entry, quiet, is_served}
-use Rattle.runs.specs.Isolation.{Uncrossed, Always, seats_of, frames_of, concerns, asked, concerning, all_sent, ClearsNothing, IsolationLaw}
+use Rattle.groups.specs.Links.{Uncrossed}
+use Rattle.runs.specs.Isolation.{Always, seats_of, frames_of, concerns, asked, concerning, all_sent, ClearsNothing, IsolationLaw}
 use Rattle.runs.proofs.Grouped.{all_kept, group_sends, group_after, near, Foreign, group_stays}
 use Rattle.runs.proofs.Alone.{Move, made, RunsAlone, at_end, same_end, Follows, moved_first}
 

@@ -1,23 +1,16 @@
 -- The law of isolation: a group of addresses with no link across its border does what it does, whatever else is seated.
 -- Assumes nothing.
 use Rattle.std.specs.Prelude.{◌≡◌, ℕ, Bool, true, false, ◌&&◌, ◌||◌, List, [], ◌∷◌, map, filter, ◌==◌}
-use Rattle.std.specs.List.{AllByRecursion, flat_map, list_any}
+use Rattle.std.specs.List.{AllByRecursion, flat_map}
 use Rattle.bus.specs.declared.frame.Frame.{Frame}
-use Rattle.station.specs.Kinds.{Seat, links}
+use Rattle.station.specs.Kinds.{Seat}
 use Rattle.station.specs.Rules.{Lawful}
+use Rattle.groups.specs.Links.{Uncrossed}
 use Rattle.house.specs.declared.call.Call.{Call}
 use Rattle.house.specs.declared.call.Call.TheVariants.{Put, Push, Second, Step, Clear, Record}
 use Rattle.house.specs.Answers.{cleared}
 use Rattle.house.specs.Turns.{Bus, called}
 use Rattle.runs.specs.Runs.{Entry, Run, quiet, is_served}
-
--- some seat at the address b links c
-abbrev pub link : List Seat → ℕ → ℕ → Bool
-link ss b c = list_any (λ s. s.address == b && links s.kind s.address s.content c) ss
-
--- no link crosses the border of a set of addresses
-abbrev pub Uncrossed : (ℕ → Bool) → List Seat → Type 0
-Uncrossed g ss = (b c : ℕ) → link ss b c ≡ true → g b ≡ g c
 
 -- a fact holds of the seats at the start of a run and after every entry
 abbrev pub Always : (List Seat → Type 0) → Bus → List Entry → Type 0
@@ -72,7 +65,7 @@ pub record Apart (g : ℕ → Bool) (start : List Seat) (es : List Entry) (end :
 
 -- against every other list of seats that keeps the rules, and every run over each of both: if the seats of a group are
 -- the same at the start, and the same calls that concern it were served, then its seats are the same at the end, and the
--- frames that bore its addresses were the same
+-- frames sent that bore its addresses were the same
 abbrev pub IsolationLaw : List Seat → Type 0
 IsolationLaw ss =
     (other : List Seat) → AllByRecursion Lawful other → (g : ℕ → Bool) → seats_of g ss ≡ seats_of g other →

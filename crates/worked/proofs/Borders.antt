@@ -9,7 +9,7 @@ use Rattle.relay.specs.declared.relay.RelaySetup.{RelaySetup}
 use Rattle.relay.specs.Tables.{table, pair_cell, matches, named_in, named}
 use Rattle.relay.specs.declared.query.Query.{Query}
 use Rattle.kinds.specs.Kinds.{relay_kind, panel_kind}
-use Rattle.runs.specs.Isolation.{link, Uncrossed}
+use Rattle.groups.specs.Links.{link, Uncrossed}
 use Rattle.worked.specs.WorkedRun.{group, linked_cells}
 
 -- where a search finds, one for a weaker test finds

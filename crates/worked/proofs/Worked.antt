@@ -10,7 +10,7 @@ use Rattle.panel.specs.Panels.{design as panel_design}
 use Rattle.relay.specs.Relays.{design as relay_design}
 use Rattle.relay.specs.Orderly.{relay_orderly}
 use Rattle.runs.specs.Runs.{quiet}
-use Rattle.runs.specs.Isolation.{Uncrossed}
+use Rattle.groups.specs.Links.{Uncrossed}
 use Rattle.worked.specs.WorkedRun.{relay_setup, panel_setup, new_relay, new_panel, here, there, group, linking, toggling, unheard, ending, here_run, there_run, holding, linked_cells, closed_relay, lit_panel, dark_panel, here_end, there_end, PremisesMet, MuchHappens}
 use Rattle.worked.proofs.Borders.{some_stray, new_cells, none_stray, none_stray_here, none_stray_there, relay_within, panel_within, uncrossed}
 use Rattle.worked.proofs.Runs.{Course, then, done, joined, run_of, always_of, clears_nothing}

@@ -14,7 +14,8 @@ use Rattle.house.specs.declared.call.Call.{Call}
 use Rattle.house.specs.declared.call.Call.TheVariants.{Put, Push, Second, Step, Clear, Record}
 use Rattle.house.specs.Answers.{Answer, refused, accepted, counts, cleared, byte}
 use Rattle.runs.specs.Runs.{Entry}
-use Rattle.runs.specs.Isolation.{link, Apart, seats_of, frames_of, concerning, all_sent}
+use Rattle.groups.specs.Links.{link}
+use Rattle.runs.specs.Isolation.{Apart, seats_of, frames_of, concerning, all_sent}
 
 -- each timer is set to a minute
 abbrev pub relay_setup : RelaySetup
