@@ -1,6 +1,6 @@
 -- A chime keeps the rules wherever events lead, since it takes no more than nine strokes. Assumes nothing.
-use Rattle.std.specs.Prelude.{◌≡◌, ℕ, zero, suc, ◌+◌, ◌≤◌, Bool, true, false, cond, ◌&&◌, ◌||◌, List, [], ◌∷◌, length, replicate, ◌==◌, nat_le, slice_set, refl}
-use Rattle.std.proofs.Common.{inl, ap, ◌∙◌, arith, length-set}
+use Rattle.std.specs.Prelude.{◌≡◌, ℕ, zero, suc, ◌+◌, ◌≤◌, Bool, true, false, cond, ◌&&◌, ◌||◌, List, [], ◌∷◌, length, replicate, ◌==◌, nat_le, refl}
+use Rattle.std.proofs.Common.{inl, ap, ◌∙◌, arith}
 use Rattle.std.proofs.lemmas.List.{length-replicate}
 use Rattle.std.specs.List.{AllByRecursion}
 use Rattle.std.proofs.lemmas.Bool.{or_parts, and_left, cond_both, cond-false, true≢false, leb-true}
@@ -10,6 +10,7 @@ use Rattle.station.specs.declared.event.Event.{Event}
 use Rattle.station.specs.declared.event.Event.TheVariants.{Heard, Second, Pushed}
 use Rattle.station.specs.Kinds.{Record, Outcome, is_status, linked, reaches}
 use Rattle.station.specs.Rules.{cell, put, stored, cells_after, Bears, Rules, later}
+use Rattle.station.proofs.Puts.{length-put}
 use Rattle.chime.specs.declared.command.Command.{Command}
 use Rattle.chime.specs.declared.command.Command.TheVariants.{Write, WriteBlock, Follow, Other}
 use Rattle.chime.specs.Commands.{command_of, put_in, obeyed}
@@ -19,10 +20,6 @@ use Rattle.chime.specs.Chimes.{names, strokes, stroke, silent, struck, rings, ac
 pub record Kept (r : Record) : Type 0 where
   pub full : length r.cells ≡ 37
   pub few : strokes r ≤ 9
-
-length-put : (cells : List ℕ) (at : ℕ) (bs : List ℕ) → length (put cells at bs) ≡ length cells
-length-put cells at [] = refl
-length-put cells at (b ∷ bs) = length-put (slice_set cells at b) (at + 1) bs ∙ length-set cells at b
 
 pub length_put_in : (cells : List ℕ) (at : ℕ) (bs : List ℕ) → length (put_in cells at bs) ≡ length cells
 length_put_in cells at bs =

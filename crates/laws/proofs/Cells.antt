@@ -2,7 +2,7 @@
 use Rattle.std.proofs.Common.{◌≡◌, ℕ, ◌+◌, ◌<◌, ◌≤◌, List, [], ◌∷◌, length, get_or, take, drop, sym, ap, ◌∙◌, arith}
 use Rattle.std.proofs.lemmas.List.{drop_more}
 use Rattle.station.specs.Rules.{put}
-use Rattle.module.proofs.Puts.{length-put, put_stands}
+use Rattle.station.proofs.Puts.{length-put, put_stands}
 
 -- four cells in a row
 abbrev pub four : List ℕ → ℕ → List ℕ

@@ -14,7 +14,7 @@ use Rattle.laws.specs.Blocks.{block}
 use Rattle.laws.specs.MemoryReads.{CellsRead, AnswersReads, ReadsBack}
 use Rattle.module.proofs.Answered.{at_own}
 use Rattle.laws.proofs.Blocks.{takes_block_writes}
-use Rattle.module.proofs.Puts.{length-put}
+use Rattle.station.proofs.Puts.{length-put}
 use Rattle.laws.proofs.Cells.{four, four-put, take_one, take_four}
 use Rattle.laws.proofs.Commands.{MemoryOnly, ByMemory, memory_only, every_by_memory}
 

@@ -1,5 +1,4 @@
 pub mod Sent
 pub mod First
 pub mod Answered
-pub mod Puts
 pub mod Bitwise

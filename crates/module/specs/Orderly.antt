@@ -1,6 +1,6 @@
 -- A design that keeps the rules makes a lawful seat. Assumes nothing.
-use Rattle.std.specs.Prelude.{◌≡◌, ℕ, ◌+◌, ◌≤◌, Bool, true, false, cond, ◌&&◌, ◌||◌, List, [], ◌∷◌, length, ◌==◌, nat_le, slice_set, refl}
-use Rattle.std.proofs.Common.{inl, inr, ap, ◌∙◌, arith, length-set}
+use Rattle.std.specs.Prelude.{◌≡◌, ℕ, ◌+◌, ◌≤◌, Bool, true, false, cond, ◌&&◌, ◌||◌, List, [], ◌∷◌, length, ◌==◌, nat_le, refl}
+use Rattle.std.proofs.Common.{inl, inr, ap, ◌∙◌, arith}
 use Rattle.std.specs.List.{AllByRecursion}
 use Rattle.std.proofs.ByRecursion.{All-weaker}
 use Rattle.std.proofs.lemmas.Bool.{or_parts, and_parts, cond_both, cond-false, true≢false}
@@ -9,11 +9,8 @@ use Rattle.station.specs.declared.event.Event.{Event}
 use Rattle.station.specs.declared.event.Event.TheVariants.{Heard, Second, Pushed}
 use Rattle.station.specs.Kinds.{Record, Outcome, is_status, linked, reaches}
 use Rattle.station.specs.Rules.{cell, payload, put, stored, written, cells_after, Bears, Rules, later}
+use Rattle.station.proofs.Puts.{length-put}
 use Rattle.module.specs.Designs.{Design, idle, answered, designed, Proper, Orderly, OnlyOwn}
-
-length-put : (cells : List ℕ) (at : ℕ) (bs : List ℕ) → length (put cells at bs) ≡ length cells
-length-put cells at [] = refl
-length-put cells at (b ∷ bs) = length-put (slice_set cells at b) (at + 1) bs ∙ length-set cells at b
 
 length-stored : (cells : List ℕ) (f : Frame) → length (stored cells f) ≡ length cells
 length-stored cells f =

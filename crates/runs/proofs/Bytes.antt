@@ -1,38 +1,13 @@
 -- What a frame leaves in a cell. Assumes nothing.
-use Rattle.std.proofs.Common.{append_assoc, ◌≡◌, ◌≢◌, ℕ, zero, suc, inl, inr, length-set, ◌+◌, ◌-◌, ◌<◌, ◌≤◌, Bool, true, false, cond, ◌&&◌, List, [], ◌∷◌, ◌++◌, length, get_or, set, Some, None, Option, refl, sym, ap, ◌∙◌, arith}
-use Rattle.std.specs.Prelude.{◌⊎◌, ◌==◌, nat_le, nat_lt}
-use Rattle.std.specs.List.{AllByRecursion}
+use Rattle.std.proofs.Common.{append_assoc, ◌≡◌, ℕ, inl, inr, ◌+◌, ◌-◌, ◌≤◌, Bool, true, false, cond, ◌&&◌, List, [], ◌∷◌, ◌++◌, length, get_or, Some, None, Option, refl, sym, ap, ◌∙◌, arith}
+use Rattle.std.specs.Prelude.{◌==◌, nat_le, nat_lt}
 use Rattle.std.proofs.ByRecursion.{All-append}
-use Rattle.std.proofs.lemmas.Bool.{leb-true, lt-ltb, ltb-true, ltb-false, leb-false}
-use Rattle.std.proofs.lemmas.List.{get_or-set_same, get_or-set_other}
+use Rattle.std.proofs.lemmas.Bool.{leb-true, ltb-true, ltb-false, leb-false}
 use Rattle.bus.specs.declared.frame.Frame.{Frame}
+use Rattle.station.proofs.Puts.{put_outside, put_inside}
 use Rattle.station.specs.Rules.{cell, payload, put, stored, written}
 use Rattle.station.specs.Seats.{nth}
-use Rattle.runs.specs.Memory.{left_in, Unwritten, LastLeft}
-
-length-put : (bs cells : List ℕ) (at : ℕ) → length (put cells at bs) ≡ length cells
-length-put [] cells at = refl
-length-put (b ∷ bs) cells at = length-put bs (set cells at b) (at + 1) ∙ length-set cells at b
-
--- a cell below or above those that bytes are put into stays
-put_outside : (bs cells : List ℕ) (at n : ℕ) → ((n < at) ⊎ (at + length bs ≤ n)) → get_or (put cells at bs) n 0 ≡ get_or cells n 0
-put_outside [] cells at n out = refl
-put_outside (b ∷ bs) cells at n (inl low) =
-    let other : n ≢ at = λ e. absurd (omega (arith, e)) in
-    put_outside bs (set cells at b) (at + 1) n (inl (omega arith)) ∙ get_or-set_other cells at n b 0 other
-put_outside (b ∷ bs) cells at n (inr high) =
-    let other : n ≢ at = λ e. absurd (omega (arith, e)) in
-    put_outside bs (set cells at b) (at + 1) n (inr (omega arith)) ∙ get_or-set_other cells at n b 0 other
-
--- the others hold the bytes
-put_inside : (bs cells : List ℕ) (at k : ℕ) → k < length bs → at + length bs ≤ length cells → get_or (put cells at bs) (at + k) 0 ≡ get_or bs k 0
-put_inside [] cells at k h fits = absurd (omega arith)
-put_inside (b ∷ bs) cells at zero h fits =
-    let here : at + 0 ≡ at = omega arith in
-    ap (λ n. get_or (put (set cells at b) (at + 1) bs) n 0) here ∙ (put_outside bs (set cells at b) (at + 1) at (inl (omega arith)) ∙ get_or-set_same cells at b 0 (omega arith))
-put_inside (b ∷ bs) cells at (suc k) h fits =
-    let here : at + suc k ≡ at + 1 + k = omega arith in
-    ap (λ n. get_or (put (set cells at b) (at + 1) bs) n 0) here ∙ put_inside bs (set cells at b) (at + 1) k (omega arith) (omega (arith, length-set cells at b))
+use Rattle.runs.specs.Memory.{left_in, LastLeft}
 
 -- a byte that a frame left, or the byte before if it left none
 abbrev pub IsLeft : Option ℕ → ℕ → ℕ → Type 0

@@ -7,7 +7,7 @@ use Rattle.station.specs.Kinds.{Seat}
 use Rattle.house.specs.declared.call.Call.{Call}
 use Rattle.house.specs.declared.call.Call.TheVariants.{Put, Push, Second, Step, Clear, Record}
 use Rattle.house.specs.Faults.{first}
-use Rattle.house.specs.Turns.{Bus, called, checks, decided, stepped, turn, written}
+use Rattle.house.specs.Turns.{Bus, called, checks, decided, turn, written}
 use Rattle.runs.specs.Runs.{Entry, Run, entry, quiet}
 use Rattle.house.specs.Houses.{bus_of}
 use Rattle.station.specs.declared.station.Station.{Ghosts}

@@ -1,5 +1,5 @@
 -- Every memory is what its ledger says. Assumes nothing.
-use Rattle.std.proofs.Common.{◌≡◌, ℕ, ◌<◌, List, [], ◌∷◌, ◌++◌, map, length, get_or, Some, None, Option, refl, sym, ap, subst, ◌∙◌, inr, arith}
+use Rattle.std.proofs.Common.{◌≡◌, ℕ, List, [], ◌∷◌, ◌++◌, map, length, get_or, Some, None, Option, refl, sym, ap, subst, ◌∙◌, inr}
 use Rattle.std.specs.List.{AllByRecursion, AllZip}
 use Rattle.bus.specs.declared.frame.Frame.{Frame}
 use Rattle.bus.specs.declared.refusal.Refusal.{Refusal}
@@ -12,8 +12,8 @@ use Rattle.house.specs.declared.call.Call.{Call}
 use Rattle.house.specs.declared.call.Call.TheVariants.{Put, Push, Second, Step, Clear, Record}
 use Rattle.house.specs.Faults.{first}
 use Rattle.house.specs.Turns.{Bus, Turn, called, checks, decided, turn, edge_of}
-use Rattle.runs.specs.Runs.{Entry, Run, entry, quiet}
-use Rattle.runs.specs.Ledgers.{Ledger, Memory, memory_of, new_ledger, passed_by, told}
+use Rattle.runs.specs.Runs.{Entry, Run, quiet}
+use Rattle.runs.specs.Ledgers.{Ledger, Memory, memory_of, told}
 use Rattle.runs.specs.Memory.{left_in, LastLeft, Keeps, Agrees, Counts, Throughout, MemoryLaw}
 use Rattle.runs.proofs.Bytes.{IsLeft, left_stands, last_more}
 

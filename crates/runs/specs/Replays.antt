@@ -1,6 +1,5 @@
 -- What a replay does. Assumes nothing.
-use Rattle.std.specs.Prelude.{◌≡◌, ℕ, List, [], ◌∷◌, ◌++◌, map, length, take, vec_items, Option, Ok, Err, Result}
-use Rattle.bus.specs.declared.frame.Frame.{Frame}
+use Rattle.std.specs.Prelude.{◌≡◌, ℕ, List, [], ◌∷◌, ◌++◌, map, length, take, vec_items, Result}
 use Rattle.bus.specs.declared.refusal.Refusal.{Refusal}
 use Rattle.station.specs.Kinds.{Seat}
 use Rattle.house.specs.declared.call.Call.{Call}

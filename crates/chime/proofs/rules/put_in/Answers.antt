@@ -1,7 +1,7 @@
 use Rattle.std.proofs.Common.{◌≡◌, ◌+◌, ◌-◌, leb, true, length, sym, ap, ◌∙◌, arith}
 use Rattle.std.proofs.lemmas.Bool.{cond-true, le-leb}
 use Rattle.station.specs.Rules.{put}
-use Rattle.chime.proofs.Puts.{put_mid-put}
+use Rattle.station.proofs.Puts.{put_mid-put}
 use Rattle.chime.proofs.rules.put_in.Goals as goal
 
 pub returns-then-end-le-CELLS : goal.returns-then-end-le-CELLS

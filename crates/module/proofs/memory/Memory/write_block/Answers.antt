@@ -1,6 +1,6 @@
 use Rattle.std.proofs.Common.{◌+◌, ◌-◌, List, ℕ, [], ◌∷◌, arith}
 use Rattle.bus.specs.Frames.{byte}
-use Rattle.module.proofs.Puts.{put_mid-put}
+use Rattle.station.proofs.Puts.{put_mid-put}
 use Rattle.module.proofs.memory.Memory.write_block.Goals as goal
 
 pub returns : goal.returns
