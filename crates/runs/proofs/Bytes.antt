@@ -7,7 +7,7 @@ use Rattle.bus.specs.declared.frame.Frame.{Frame}
 use Rattle.station.proofs.Puts.{put_outside, put_inside}
 use Rattle.station.specs.Rules.{cell, payload, put, stored, written}
 use Rattle.station.specs.Seats.{nth}
-use Rattle.runs.specs.Memory.{left_in, LastLeft}
+use Rattle.runs.specs.Memory.{left_in, LastLeft, left, kept}
 
 -- a byte that a frame left, or the byte before if it left none
 abbrev pub IsLeft : Option ℕ → ℕ → ℕ → Type 0
@@ -52,11 +52,11 @@ module _ (own : ℕ) (cells : List ℕ) (n : ℕ) (f : Frame) where
 
 -- one frame more has passed
 pub last_more : (own size n : ℕ) (fs : List Frame) (f : Frame) (first b new : ℕ) → LastLeft own size n fs first b → IsLeft (left_in own size n f) b new → LastLeft own size n (fs ++ f ∷ []) first new
-last_more own size n fs f first b new h left = by (left_in own size n f) refl left h
+last_more own size n fs f first b new h now = by (left_in own size n f) refl now h
   where
     by : (o : Option ℕ) → left_in own size n f ≡ o → IsLeft o b new → LastLeft own size n fs first b → LastLeft own size n (fs ++ f ∷ []) first new
-    by (Some c) e l k = inl (fs, f, [], refl, e ∙ ap Some (sym l), tt)
-    by None e l (inl (before, g, later, split, wrote, quiet)) =
+    by (Some c) e l k = left fs f [] refl (e ∙ ap Some (sym l)) tt
+    by None e l (left before g later split wrote quiet) =
         let longer : fs ++ f ∷ [] ≡ before ++ g ∷ (later ++ f ∷ []) = ap (λ t. t ++ f ∷ []) split ∙ append_assoc before (g ∷ later) (f ∷ []) in
-        inl (before, g, later ++ f ∷ [], longer, wrote ∙ ap Some (sym l), All-append (λ x. left_in own size n x ≡ None) later (f ∷ []) quiet (e, tt))
-    by None e l (inr (quiet, same)) = inr (All-append (λ x. left_in own size n x ≡ None) fs (f ∷ []) quiet (e, tt), l ∙ same)
+        left before g (later ++ f ∷ []) longer (wrote ∙ ap Some (sym l)) (All-append (λ x. left_in own size n x ≡ None) later (f ∷ []) quiet (e, tt))
+    by None e l (kept quiet same) = kept (All-append (λ x. left_in own size n x ≡ None) fs (f ∷ []) quiet (e, tt)) (l ∙ same)

@@ -12,7 +12,7 @@ use Rattle.station.specs.Rules.{Bears, Rules, Lawful}
 use Rattle.station.specs.Seats.{after_all, sent_all}
 use Rattle.house.specs.Faults.{bad_address}
 use Rattle.groups.specs.Links.{link, Uncrossed}
-use Rattle.runs.specs.Isolation.{seats_of, frames_of}
+use Rattle.runs.specs.Isolation.{members, frames_of}
 
 -- a seat not at address 0 that keeps the rules now and links no address across the border
 pub record Kept (g : ℕ → Bool) (s : Seat) : Type 0 where
@@ -50,7 +50,7 @@ module _ (g h : ℕ → Bool) (same : (a : ℕ) → a == 0 ≡ false → h a ≡
       same f.address (ne_eqb _ _ (λ e. omega arith)) ∙ sym (k.border f.address link)
 
   -- so the group's frames are what the group's seats send
-  pub group_sends : (e : Event) (ss : List Seat) → AllByRecursion (Kept g) ss → frames_of h (sent_all e ss) ≡ sent_all e (seats_of g ss)
+  pub group_sends : (e : Event) (ss : List Seat) → AllByRecursion (Kept g) ss → frames_of h (sent_all e ss) ≡ sent_all e (members g ss)
   group_sends e [] k = refl
   group_sends e (s ∷ ss) k =
       let here = one_side h (g s.address) (sent e s) (All-weaker _ _ (side s k.0) _ (k.0.rules.bears e)) in
@@ -58,7 +58,7 @@ module _ (g h : ℕ → Bool) (same : (a : ℕ) → a == 0 ≡ false → h a ≡
       (elim (cases_Bool (g s.address)) [ inl m ↦ rw m refl | inr m ↦ rw m refl ])
 
 -- the group's seats after an event
-pub group_after : (g : ℕ → Bool) (e : Event) (ss : List Seat) → seats_of g (after_all e ss) ≡ after_all e (seats_of g ss)
+pub group_after : (g : ℕ → Bool) (e : Event) (ss : List Seat) → members g (after_all e ss) ≡ after_all e (members g ss)
 group_after g e [] = refl
 group_after g e (s ∷ ss) =
     let rest = group_after g e ss in
@@ -84,7 +84,7 @@ unreached g (Heard f) n s k m =
     (or_from _ _ out.0 (and_right (is_status f) _ (false_from_ne_true _ (λ l. both_ways (g f.address) out.1 (sym (k.border f.address l) ∙ m)))))
 
 -- so they stay as they are, and send nothing
-pub group_stays : (g : ℕ → Bool) (e : Event) → Foreign g e → (ss : List Seat) → AllByRecursion (Kept g) ss → (after_all e (seats_of g ss) ≡ seats_of g ss) × (sent_all e (seats_of g ss) ≡ [])
+pub group_stays : (g : ℕ → Bool) (e : Event) → Foreign g e → (ss : List Seat) → AllByRecursion (Kept g) ss → (after_all e (members g ss) ≡ members g ss) × (sent_all e (members g ss) ≡ [])
 group_stays g e n [] k = (refl, refl)
 group_stays g e n (s ∷ ss) k =
     let rest = group_stays g e n ss k.1 in

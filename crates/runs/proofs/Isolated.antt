@@ -18,17 +18,17 @@ use Rattle.house.specs.Faults.{Checks, first, bad_address}
 use Rattle.house.specs.Turns.{Turn, Bus, acted, served, decided, checks, turn, called}
 use Rattle.runs.specs.Runs.{Entry, Run, entry, quiet, is_served}
 use Rattle.groups.specs.Links.{Uncrossed}
-use Rattle.runs.specs.Isolation.{Always, seats_of, frames_of, concerns, asked, concerning, all_sent, ClearsNothing, IsolationLaw}
+use Rattle.runs.specs.Isolation.{Always, members, frames_of, concerns, without_buffer, concerning, all_sent, ClearsNothing, IsolationLaw}
 use Rattle.runs.proofs.Grouped.{all_kept, group_sends, group_after, near, Foreign, group_stays}
 use Rattle.runs.proofs.Alone.{Move, made, RunsAlone, at_end, same_end, Follows, moved_first}
 
 -- a turn of the house, as the group sees it
 abbrev seen : (ℕ → Bool) → Turn → List Call → Move
-seen g t cs = record { seats = seats_of g t.seats; pending = frames_of (near g) t.pending; sent = frames_of g t.sent; calls = cs }
+seen g t cs = record { seats = members g t.seats; pending = frames_of (near g) t.pending; sent = frames_of g t.sent; calls = cs }
 
 -- the calls that concern the group: this one first, if it does and was served
 abbrev noted : (ℕ → Bool) → Call → Turn → List Call → List Call
-noted g c t cs = cond (is_served t.answer && concerns g c) (asked c ∷ cs) cs
+noted g c t cs = cond (is_served t.answer && concerns g c) (without_buffer c ∷ cs) cs
 
 -- where no check is the first that applies, none does
 none_applies : (cs : Checks) → first cs ≡ None → AllByRecursion (λ c. c.0 ≡ false) cs
@@ -39,13 +39,13 @@ none_applies (c ∷ cs) e =
       | inr m ↦ (m, none_applies cs (rw m at e))
     ]
 
--- no frame is pending where a quiet house was asked for
+-- no frame is pending where a quiet house was without_buffer for
 quiet_now : (q : List Frame) → nat_lt 0 (length q) ≡ false → q ≡ []
 quiet_now q e = let less = ltb-false 0 (length q) e in nil_from_length q (omega arith)
 
 module _ (g : ℕ → Bool) (ss : List Seat) (lawful : AllByRecursion Lawful ss) (border : Uncrossed g ss) (cs : List Call) where
   abbrev group : List Seat
-  group = seats_of g ss
+  group = members g ss
 
   abbrev queue : List Frame → List Frame
   queue q = frames_of (near g) q
@@ -128,7 +128,7 @@ module _ (g : ℕ → Bool) where
 
   -- in a run of the house, the group's seats do what they do by themselves
   runs_alone : (es : List Entry) (x : Bus) (end : List Seat) → AllByRecursion Lawful x.seats → Run x es (quiet end) → Always (Uncrossed g) x es → ClearsNothing es →
-      RunsAlone (seats_of g x.seats) (frames_of (near g) x.pending) (concerning g es) (seats_of g end) (frames_of g (all_sent es))
+      RunsAlone (members g x.seats) (frames_of (near g) x.pending) (concerning g es) (members g end) (frames_of g (all_sent es))
   runs_alone [] x end l r a k = rw (← r) at_end
   runs_alone (e ∷ es) x end l r a k =
       let t = turn x.seats x.pending e.call in
@@ -138,7 +138,7 @@ module _ (g : ℕ → Bool) where
 
 -- so two runs that give the group the same start and the same calls end the same for it
 pub isolation_law : (ss : List Seat) → AllByRecursion Lawful ss → IsolationLaw ss
-isolation_law ss l other k g start es fs end last a b calls =
-    let one = runs_alone g es (quiet ss) end l a.run a.border a.clears in
-    let two = runs_alone g fs (quiet other) last k b.run b.border b.clears in
-    same_end one (rw (start, calls) two)
+isolation_law ss l g es end other fs last c =
+    let one = runs_alone g es (quiet ss) end l c.here.run c.here.border c.here.clears in
+    let two = runs_alone g fs (quiet other) last c.lawful c.there.run c.there.border c.there.clears in
+    same_end one (rw (c.alike, c.calls) two)

@@ -12,7 +12,8 @@ use Rattle.runs.specs.Runs.{Entry, Run, entry, quiet}
 use Rattle.house.specs.Houses.{bus_of}
 use Rattle.station.specs.declared.station.Station.{Ghosts}
 use Rattle.runs.specs.declared.replayed.Replayed.{Replayed}
-use Rattle.runs.specs.Replays.{sent_number, entries_of, Made, Ran}
+use Rattle.runs.specs.Making.{sent_number, Made}
+use Rattle.runs.specs.Replays.{entries_of, Ran}
 use Rattle.std.proofs.lemmas.List.{map-append}
 
 served_counted : (ss : List Seat) (q : List Frame) (c : Call) → sent_number (decided None ss q c).answer ≡ length (decided None ss q c).sent

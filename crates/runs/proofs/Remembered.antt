@@ -1,5 +1,5 @@
 -- Every memory is what its ledger says. Assumes nothing.
-use Rattle.std.proofs.Common.{◌≡◌, ℕ, List, [], ◌∷◌, ◌++◌, map, length, get_or, Some, None, Option, refl, sym, ap, subst, ◌∙◌, inr}
+use Rattle.std.proofs.Common.{◌≡◌, ℕ, List, [], ◌∷◌, ◌++◌, map, length, get_or, Some, None, Option, refl, sym, ap, subst, ◌∙◌}
 use Rattle.std.specs.List.{AllByRecursion, AllZip}
 use Rattle.bus.specs.declared.frame.Frame.{Frame}
 use Rattle.bus.specs.declared.refusal.Refusal.{Refusal}
@@ -14,7 +14,7 @@ use Rattle.house.specs.Faults.{first}
 use Rattle.house.specs.Turns.{Bus, Turn, called, checks, decided, turn, edge_of}
 use Rattle.runs.specs.Runs.{Entry, Run, quiet}
 use Rattle.runs.specs.Ledgers.{Ledger, Memory, memory_of, told}
-use Rattle.runs.specs.Memory.{left_in, LastLeft, Keeps, Agrees, Counts, Throughout, MemoryLaw}
+use Rattle.runs.specs.Memory.{left_in, LastLeft, kept, Keeps, Agrees, NumbersRight, Throughout, MemoryLaw}
 use Rattle.runs.proofs.Bytes.{IsLeft, left_stands, last_more}
 
 -- seats that keep the rules do so after an event
@@ -95,7 +95,7 @@ record Follows (start : List Seat) (fs : List Frame) (x : Bus) (c : Call) (t : T
   passed : List Frame
   ledger : told (noted c t) (book fs x) ≡ book passed (record { seats = t.seats; pending = t.pending })
   keeps : AllZip (Keeps fs) start x.seats → AllZip (Keeps passed) start t.seats
-  numbers : Counts t.answer t.sent (book fs x) (told (noted c t) (book fs x))
+  numbers : NumbersRight t.answer t.sent (book fs x) (told (noted c t) (book fs x))
   lawful : AllByRecursion Lawful t.seats
 
 -- the ledger after an event at which no frame passes
@@ -138,14 +138,14 @@ throughout start fs x (e ∷ es) y h k run =
     let f = follows start fs x h e.call in
     let ledger : told e (book fs x) ≡ book f.passed (called e.call x) = ap (λ z. told z (book fs x)) run.0 ∙ f.ledger in
     let now : Agrees start (book fs x) x = record { queue = refl; memories = refl; seats = k } in
-    let numbers = subst (λ z. Counts z.answer z.sent (book fs x) (told z (book fs x))) (sym run.0) f.numbers in
+    let numbers = subst (λ z. NumbersRight z.answer z.sent (book fs x) (told z (book fs x))) (sym run.0) f.numbers in
     let later = throughout start f.passed (called e.call x) es y f.lawful (f.keeps k) run.1 in
     (now, numbers, subst (λ l. Throughout start l (called e.call x) es) (sym ledger) later)
 
 -- at first, each cell holds its first content
-kept : (ss : List Seat) → AllByRecursion Lawful ss → AllZip (Keeps []) ss ss
-kept [] h = tt
-kept (s ∷ ss) h = (record { kind = refl; address = refl; size = (h.0 []).sized; bytes = λ n low. inr (tt, refl) }, kept ss h.1)
+kept_at_first : (ss : List Seat) → AllByRecursion Lawful ss → AllZip (Keeps []) ss ss
+kept_at_first [] h = tt
+kept_at_first (s ∷ ss) h = (record { kind = refl; address = refl; size = (h.0 []).sized; bytes = λ n low. kept tt refl }, kept_at_first ss h.1)
 
 pub memory_law : (ss : List Seat) → AllByRecursion Lawful ss → MemoryLaw ss
-memory_law ss h es y run = throughout ss [] (quiet ss) es y h (kept ss h) run
+memory_law ss h es y run = throughout ss [] (quiet ss) es y h (kept_at_first ss h) run

@@ -18,8 +18,8 @@ Always P x [] = P x.seats
 Always P x (e ∷ es) = P x.seats × Always P (called e.call x) es
 
 -- the seats of a group, in order
-abbrev pub seats_of : (ℕ → Bool) → List Seat → List Seat
-seats_of g ss = filter (λ s. g s.address) ss
+abbrev pub members : (ℕ → Bool) → List Seat → List Seat
+members g ss = filter (λ s. g s.address) ss
 
 -- the frames that bear an address of the group, in order
 abbrev pub frames_of : (ℕ → Bool) → List Frame → List Frame
@@ -36,17 +36,17 @@ concerns g Clear = false
 concerns g (Record a n) = false
 
 -- a call but for the length of its buffer
-abbrev pub asked : Call → Call
-asked (Put f) = Put f
-asked (Push a c e n) = Push a c e 0
-asked (Second n) = Second 0
-asked (Step n) = Step 0
-asked Clear = Clear
-asked (Record a n) = Record a n
+abbrev pub without_buffer : Call → Call
+without_buffer (Put f) = Put f
+without_buffer (Push a c e n) = Push a c e 0
+without_buffer (Second n) = Second 0
+without_buffer (Step n) = Step 0
+without_buffer Clear = Clear
+without_buffer (Record a n) = Record a n
 
 -- the served calls that concern the group, in order
 abbrev pub concerning : (ℕ → Bool) → List Entry → List Call
-concerning g es = map (λ e. asked e.call) (filter (λ e. is_served e.answer && concerns g e.call) es)
+concerning g es = map (λ e. without_buffer e.call) (filter (λ e. is_served e.answer && concerns g e.call) es)
 
 -- the frames that were sent, in order
 abbrev pub all_sent : List Entry → List Frame
@@ -63,11 +63,17 @@ pub record Apart (g : ℕ → Bool) (start : List Seat) (es : List Entry) (end :
   pub border : Always (Uncrossed g) (quiet start) es
   pub clears : ClearsNothing es
 
--- against every other list of seats that keeps the rules, and every run over each of both: if the seats of a group are
--- the same at the start, and the same calls that concern it were served, then its seats are the same at the end, and the
--- frames sent that bore its addresses were the same
+-- two runs, over two lists of seats that have the seats of a group in common, in which the same calls that concern it were
+-- served. Of the other seats of either list nothing is asked but that they keep the rules
+pub record Compared (g : ℕ → Bool) (start : List Seat) (es : List Entry) (end : List Seat) (other : List Seat) (fs : List Entry) (last : List Seat) : Type 0 where
+  pub lawful : AllByRecursion Lawful other
+  pub alike : members g start ≡ members g other
+  pub here : Apart g start es end
+  pub there : Apart g other fs last
+  pub calls : concerning g es ≡ concerning g fs
+
+-- then the group's seats are the same in the end, and so are the frames sent with its addresses, whatever else there is
 abbrev pub IsolationLaw : List Seat → Type 0
-IsolationLaw ss =
-    (other : List Seat) → AllByRecursion Lawful other → (g : ℕ → Bool) → seats_of g ss ≡ seats_of g other →
-    (es fs : List Entry) (end last : List Seat) → Apart g ss es end → Apart g other fs last → concerning g es ≡ concerning g fs →
-    (seats_of g end ≡ seats_of g last) × (frames_of g (all_sent es) ≡ frames_of g (all_sent fs))
+IsolationLaw start =
+    (g : ℕ → Bool) (es : List Entry) (end other : List Seat) (fs : List Entry) (last : List Seat) → Compared g start es end other fs last →
+    (members g end ≡ members g last) × (frames_of g (all_sent es) ≡ frames_of g (all_sent fs))

@@ -34,16 +34,16 @@ abbrev pub joined : List Frame → Ledger → Ledger
 joined fs l = record { queue = l.queue ++ fs; passed = l.passed; memories = l.memories }
 
 -- the first frame of the queue passes
-abbrev pub moved : List Frame → Ledger → Ledger
-moved [] l = l
-moved (f ∷ q) l = record { queue = q; passed = l.passed ++ f ∷ []; memories = map (passed_by f) l.memories }
+abbrev pub first_passes : List Frame → Ledger → Ledger
+first_passes [] l = l
+first_passes (f ∷ q) l = record { queue = q; passed = l.passed ++ f ∷ []; memories = map (passed_by f) l.memories }
 
 -- a served call, and the frames that were sent
 abbrev pub fed : Call → List Frame → Ledger → Ledger
 fed (Put f) fs l = joined (f ∷ []) l
 fed (Push a c e n) fs l = joined fs l
 fed (Second n) fs l = joined fs l
-fed (Step n) fs l = joined fs (moved l.queue l)
+fed (Step n) fs l = joined fs (first_passes l.queue l)
 fed Clear fs l = record { queue = []; passed = l.passed; memories = l.memories }
 fed (Record a n) fs l = l
 

@@ -3,3 +3,4 @@ pub mod Ledgers
 pub mod Memory
 pub mod Isolation
 pub mod Replays
+pub mod Making

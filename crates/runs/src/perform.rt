@@ -1,7 +1,8 @@
 // How a call is made that is given as a value.
 ghost use Rattle.std.specs.Prelude.{◌≡◌, length};
 ghost use Rattle.house.specs.Houses.{turn_of, TakesTurn};
-ghost use Rattle.runs.specs.Replays.{places_of, shown_reply};
+ghost use Rattle.runs.specs.Making.{places_of};
+ghost use Rattle.runs.specs.Replays.{shown_reply};
 ghost use Rattle.house.specs.Answers.{shown_counts};
 
 use crate::entry::Reply;

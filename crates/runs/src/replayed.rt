@@ -3,7 +3,8 @@ ghost use Rattle.std.specs.Prelude.{◌≡◌, length, IfOk, IfErr};
 ghost use Rattle.house.specs.Houses.{station_of, bus_of};
 ghost use Rattle.house.specs.Turns.{called};
 ghost use Rattle.runs.specs.Runs.{entry, quiet};
-ghost use Rattle.runs.specs.Replays.{entries_of, places_of, shown_reply, shown_entry, sent_number, Made, Ran, LeftOff};
+ghost use Rattle.runs.specs.Making.{places_of, sent_number, Made};
+ghost use Rattle.runs.specs.Replays.{entries_of, shown_reply, shown_entry, Ran, LeftOff};
 ghost use Rattle.runs.specs.Memory.{MemoryLaw};
 ghost use Rattle.runs.specs.Isolation.{IsolationLaw};
 

@@ -15,7 +15,7 @@ use Rattle.house.specs.declared.call.Call.TheVariants.{Put, Push, Second, Step, 
 use Rattle.house.specs.Answers.{Answer, refused, accepted, counts, cleared, byte}
 use Rattle.runs.specs.Runs.{Entry}
 use Rattle.groups.specs.Links.{link}
-use Rattle.runs.specs.Isolation.{Apart, seats_of, frames_of, concerning, all_sent}
+use Rattle.runs.specs.Isolation.{Apart, members, frames_of, concerning, all_sent}
 
 -- each timer is set to a minute
 abbrev pub relay_setup : RelaySetup
@@ -147,7 +147,7 @@ pub record PremisesMet : Type 0 where
   pub there_stands : Stands there
   pub here_lawful : AllByRecursion Lawful here
   pub there_lawful : AllByRecursion Lawful there
-  pub group_seats : seats_of group here ≡ seats_of group there
+  pub group_seats : members group here ≡ members group there
   pub here_apart : Apart group here here_run here_end
   pub there_apart : Apart group there there_run there_end
   pub same_calls : concerning group here_run ≡ concerning group there_run

@@ -2,7 +2,7 @@ use Rattle.std.proofs.Common.{ap, ◌∙◌, take, drop, length, ◌++◌, ◌�
 use Rattle.std.proofs.Math.Seq.{take-append_seam}
 use Rattle.house.specs.Houses.{bus_of}
 use Rattle.house.specs.Turns.{turn}
-use Rattle.runs.specs.Replays.{sent_number}
+use Rattle.runs.specs.Making.{sent_number}
 use Rattle.runs.proofs.Making.{sent_kept}
 use Rattle.runs.proofs.replayed.noted.Goals as goal
 
