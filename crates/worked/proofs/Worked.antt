@@ -10,8 +10,9 @@ use Rattle.panel.specs.Panels.{design as panel_design}
 use Rattle.relay.specs.Relays.{design as relay_design}
 use Rattle.relay.specs.Orderly.{relay_orderly}
 use Rattle.runs.specs.Runs.{quiet}
+use Rattle.runs.proofs.Stations.{memory_stands, isolation_stands}
 use Rattle.groups.specs.Links.{Uncrossed}
-use Rattle.worked.specs.WorkedRun.{relay_setup, panel_setup, new_relay, new_panel, here, there, group, linking, toggling, unheard, ending, here_run, there_run, holding, linked_cells, closed_relay, lit_panel, dark_panel, here_end, there_end, PremisesMet, MuchHappens}
+use Rattle.worked.specs.WorkedRun.{relay_setup, panel_setup, new_relay, new_panel, here, there, group, linking, toggling, unheard, ending, here_run, there_run, holding, linked_cells, closed_relay, lit_panel, dark_panel, here_end, there_end, PremisesMet, MuchHappens, LawsApplied}
 use Rattle.worked.proofs.Borders.{some_stray, new_cells, none_stray, none_stray_here, none_stray_there, relay_within, panel_within, uncrossed}
 use Rattle.worked.proofs.Runs.{Course, then, done, joined, run_of, always_of, clears_nothing}
 
@@ -164,22 +165,24 @@ premises_met =
     record {
       here_stands = (omega arith, ((omega arith, panel_lawful 0x30), ((omega arith, relay_lawful 0x10), ((omega arith, panel_lawful 0x20), tt))));
       there_stands = (omega arith, ((omega arith, relay_lawful 0x10), ((omega arith, panel_lawful 0x40), ((omega arith, panel_lawful 0x20), ((omega arith, relay_lawful 0x50), tt)))));
-      here_lawful = (panel_lawful 0x30, (relay_lawful 0x10, (panel_lawful 0x20, tt)));
-      there_lawful = (relay_lawful 0x10, (panel_lawful 0x40, (panel_lawful 0x20, (relay_lawful 0x50, tt))));
-      group_seats = refl;
-      here_apart =
+      compared =
           record {
-            run = run_of here_course;
-            border = always_of {Q = Uncrossed group} here_uncrossed here_course;
-            clears = clears_nothing here_run refl;
+            lawful = (relay_lawful 0x10, (panel_lawful 0x40, (panel_lawful 0x20, (relay_lawful 0x50, tt))));
+            alike = refl;
+            here =
+                record {
+                  run = run_of here_course;
+                  border = always_of {Q = Uncrossed group} here_uncrossed here_course;
+                  clears = clears_nothing here_run refl;
+                };
+            there =
+                record {
+                  run = run_of there_course;
+                  border = always_of {Q = Uncrossed group} there_uncrossed there_course;
+                  clears = clears_nothing there_run refl;
+                };
+            calls = refl;
           };
-      there_apart =
-          record {
-            run = run_of there_course;
-            border = always_of {Q = Uncrossed group} there_uncrossed there_course;
-            clears = clears_nothing there_run refl;
-          };
-      same_calls = refl;
     }
 
 pub much_happens : MuchHappens
@@ -194,4 +197,17 @@ much_happens =
       frames = refl;
       here_others = refl;
       there_others = refl;
+    }
+
+-- by the laws as they stand, so a premise more in one of them is refused here
+pub laws_applied : LawsApplied
+laws_applied =
+    let p = premises_met in
+    let c = p.compared in
+    let group_alike = isolation_stands here p.here_stands group here_run here_end there there_run there_end c in
+    record {
+      here_memory = memory_stands here p.here_stands here_run (quiet here_end) c.here.run;
+      there_memory = memory_stands there p.there_stands there_run (quiet there_end) c.there.run;
+      same_end = group_alike.0;
+      same_frames = group_alike.1;
     }

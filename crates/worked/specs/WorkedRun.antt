@@ -1,10 +1,9 @@
 -- Worked runs: two houses that have a relay and a panel in common and differ in all else. Assumes nothing.
 use Rattle.std.specs.Prelude.{◌≡◌, ℕ, Bool, true, not, ◌||◌, List, [], ◌∷◌, ◌++◌, length, replicate, Some, ◌==◌}
-use Rattle.std.specs.List.{AllByRecursion}
 use Rattle.bus.specs.declared.frame.Frame.{Frame}
 use Rattle.bus.specs.Frames.{message}
 use Rattle.station.specs.Kinds.{Seat}
-use Rattle.station.specs.Rules.{put, Lawful, Stands}
+use Rattle.station.specs.Rules.{put, Stands}
 use Rattle.station.specs.Seats.{first_byte}
 use Rattle.panel.specs.declared.panel.PanelSetup.{PanelSetup}
 use Rattle.relay.specs.declared.relay.RelaySetup.{RelaySetup}
@@ -13,9 +12,11 @@ use Rattle.kinds.specs.Kinds.{relay_kind, panel_kind, new_seat}
 use Rattle.house.specs.declared.call.Call.{Call}
 use Rattle.house.specs.declared.call.Call.TheVariants.{Put, Push, Second, Step, Clear, Record}
 use Rattle.house.specs.Answers.{Answer, refused, accepted, counts, cleared, byte}
-use Rattle.runs.specs.Runs.{Entry}
+use Rattle.runs.specs.Runs.{Entry, quiet}
 use Rattle.groups.specs.Links.{link}
-use Rattle.runs.specs.Isolation.{Apart, members, frames_of, concerning, all_sent}
+use Rattle.runs.specs.Isolation.{Compared, members, frames_of, concerning, all_sent}
+use Rattle.runs.specs.Ledgers.{new_ledger}
+use Rattle.runs.specs.Memory.{Throughout}
 
 -- each timer is set to a minute
 abbrev pub relay_setup : RelaySetup
@@ -139,18 +140,11 @@ here_end = dark_panel 0x30 ∷ closed_relay 0x10 0x20 ∷ lit_panel 0x20 ∷ []
 abbrev pub there_end : List Seat
 there_end = closed_relay 0x10 0x20 ∷ lit_panel 0x40 ∷ lit_panel 0x20 ∷ closed_relay 0x50 0x40 ∷ []
 
--- what the two laws ask for. In order: the seats are those of a station, and keep the rules; the group's seats are the
--- same in both houses; both runs are runs from quiet to quiet in which no link crosses the border and no frame is lost;
--- the served calls that concern the group are the same
+-- what the laws ask for: the seats are those of a station, and the law of isolation can compare the runs
 pub record PremisesMet : Type 0 where
   pub here_stands : Stands here
   pub there_stands : Stands there
-  pub here_lawful : AllByRecursion Lawful here
-  pub there_lawful : AllByRecursion Lawful there
-  pub group_seats : members group here ≡ members group there
-  pub here_apart : Apart group here here_run here_end
-  pub there_apart : Apart group there there_run there_end
-  pub same_calls : concerning group here_run ≡ concerning group there_run
+  pub compared : Compared group here here_run here_end there there_run there_end
 
 -- what there is to see in the runs. In order: the houses have other sizes; a link inside the group and one outside it;
 -- the calls that concern the group; the cell of the link at the start and at the end; the frames of the group; all other
@@ -165,3 +159,11 @@ pub record MuchHappens : Type 0 where
   pub here_others : frames_of (λ a. not (group a)) (all_sent here_run) ≡ one_pressed 0x30 ∷ []
   pub there_others :
       frames_of (λ a. not (group a)) (all_sent there_run) ≡ link_answer 0x50 0x40 ∷ one_pressed 0x40 ∷ one_closed 0x50 ∷ one_pressed 0x50 ∷ one_lit 0x40 ∷ []
+
+-- what the laws say of the runs. In order: ledger and house agree all through either run; the group ends alike in both, and
+-- sends alike
+pub record LawsApplied : Type 0 where
+  pub here_memory : Throughout here (new_ledger here) (quiet here) here_run
+  pub there_memory : Throughout there (new_ledger there) (quiet there) there_run
+  pub same_end : members group here_end ≡ members group there_end
+  pub same_frames : frames_of group (all_sent here_run) ≡ frames_of group (all_sent there_run)
