@@ -8,9 +8,10 @@ use Rattle.panel.specs.declared.panel.PanelSetup.{PanelSetup}
 use Rattle.relay.specs.declared.relay.RelaySetup.{RelaySetup}
 use Rattle.relay.specs.Tables.{table, pair_cell, matches, named_in, named}
 use Rattle.relay.specs.declared.query.Query.{Query}
+use Rattle.chime.specs.Chimes.{followed, chime_kind}
 use Rattle.kinds.specs.Kinds.{relay_kind, panel_kind}
 use Rattle.groups.specs.Links.{link, Uncrossed}
-use Rattle.worked.specs.WorkedRun.{group, linked_cells}
+use Rattle.worked.specs.WorkedRun.{group, no_links, linked_cells}
 
 -- where a search finds, one for a weaker test finds
 module _ (t w : ℕ → Bool) (weaker : (p : ℕ) → t p ≡ true → w p ≡ true) where
@@ -100,6 +101,12 @@ relay_within s own r none c l =
 pub panel_within : (s : PanelSetup) (own : ℕ) (r : Record) → Within (record { kind = panel_kind s; address = own; content = r })
 panel_within s own r c l = absurd (false≢true (and_parts (not (c == own)) false (and_parts (nat_lt c 255) _ (and_parts (nat_lt 0 c) _ l).1).1).1)
 
+-- a chime links the one address that it follows
+pub chime_within : (tone own : ℕ) (r : Record) → group own ≡ group (followed r) → Within (record { kind = chime_kind tone; address = own; content = r })
+chime_within tone own r same_side c l =
+    let inside = and_parts (nat_lt c 255) _ (and_parts (nat_lt 0 c) _ l).1 in
+    same_side ∙ ap group (sym (eqb-true c (followed r) (and_parts (not (c == own)) (c == followed r) inside.1).1))
+
 pub uncrossed : (ss : List Seat) → AllByRecursion Within ss → Uncrossed group ss
 uncrossed [] h b c e = absurd (false≢true e)
 uncrossed (s ∷ ss) h b c e =
@@ -109,11 +116,8 @@ uncrossed (s ∷ ss) h b c e =
       | inr r ↦ uncrossed ss h.1 b c r
     ]
 
--- new cells have no such pair, and the linked ones neither
-abbrev pub new_cells : List ℕ
-new_cells = replicate 1024 255
-
-pub none_stray : (side : Bool) → some_stray side new_cells ≡ false
+-- the cells without links have no such pair, and the linked ones neither
+pub none_stray : (side : Bool) → some_stray side no_links ≡ false
 unfolding first some_stray
 none_stray true = refl
 none_stray false = refl
