@@ -1,10 +1,14 @@
 -- The worked runs meet the premises. Assumes nothing.
-use Rattle.std.proofs.Common.{◌≡◌, ℕ, true, false, List, [], ◌∷◌, refl, sym, subst, ap, ◌∙◌, arith, rules}
+use Rattle.std.proofs.Common.{◌≡◌, ℕ, true, false, List, [], ◌∷◌, ◌++◌, refl, sym, subst, ap, ◌∙◌, arith, rules}
 use Rattle.module.specs.Designs.{Orderly}
 use Rattle.module.specs.Orderly.{orderly_lawful}
 use Rattle.module.specs.Searches.{first}
 use Rattle.station.specs.Kinds.{Record, Seat}
+use Rattle.std.specs.List.{AllByRecursion}
 use Rattle.station.specs.Rules.{Lawful}
+use Rattle.house.specs.declared.call.Call.TheVariants.{Put, Clear}
+use Rattle.house.specs.Answers.{accepted, cleared}
+use Rattle.runs.specs.Isolation.{Apart}
 use Rattle.panel.specs.declared.panel.PanelSetup.{PanelSetup}
 use Rattle.panel.specs.Panels.{design as panel_design}
 use Rattle.relay.specs.Relays.{design as relay_design}
@@ -13,8 +17,8 @@ use Rattle.chime.specs.Lawful.{chime_lawful}
 use Rattle.runs.specs.Runs.{quiet}
 use Rattle.runs.proofs.Stations.{memory_stands, isolation_stands}
 use Rattle.groups.specs.Links.{Uncrossed}
-use Rattle.worked.specs.WorkedRun.{relay_setup, panel_setup, relay_at, panel_at, chime, no_links, linked_cells, here, there, group, ding, linking, toggling, ending, here_alone, there_alone, here_run, there_run, here_end, there_end, lossy_run, lossy_end, PremisesMet, MuchHappens, LawsApplied}
-use Rattle.worked.proofs.Borders.{some_stray, none_stray, none_stray_here, none_stray_there, relay_within, panel_within, chime_within, uncrossed}
+use Rattle.worked.specs.WorkedRun.{relay_setup, panel_setup, relay_at, panel_at, chime, no_links, linked_cells, here, there, faulty, group, ding, link_write, long_write, noted, press, asking, linking, toggling, unanswered, timing, here_alone, there_alone, here_run, there_run, here_end, there_end, lossy_run, lossy_end, faulty_run, PremisesMet, MuchHappens, LawsApplied}
+use Rattle.worked.proofs.Borders.{Within, some_stray, none_stray, none_stray_here, none_stray_there, relay_within, panel_within, chime_within, uncrossed}
 use Rattle.worked.proofs.Runs.{Course, then, done, joined, run_of, always_of, clears_nothing}
 
 relay_lawful : (a : ℕ) → Lawful (relay_at a no_links 0)
@@ -28,6 +32,9 @@ panel_lawful a lamps buttons = orderly_lawful (panel_design _) a _ (panel_orderl
 
 chime_is_lawful : Lawful chime
 chime_is_lawful = chime_lawful 5 0x30 _ (record { full = refl; few = omega arith })
+
+chime_inside : Within chime
+chime_inside = chime_within 5 0x30 chime.content refl
 
 -- a seat whatever it remembers
 abbrev recalling : Record → Seat → Seat
@@ -64,7 +71,7 @@ here_uncrossed ss k =
 there_uncrossed : (ss : List Seat) → ThereKept ss → Uncrossed group ss
 there_uncrossed ss k =
     subst (Uncrossed group) (sym k.seats)
-    (uncrossed (there_with k.a k.b k.c k.d) (relay_within relay_setup _ k.a k.relay, (panel_within panel_setup _ k.b, (panel_within panel_setup _ k.c, (relay_within relay_setup _ k.d k.other, (chime_within 5 0x30 chime.content refl, tt))))))
+    (uncrossed (there_with k.a k.b k.c k.d) (relay_within relay_setup _ k.a k.relay, (panel_within panel_setup _ k.b, (panel_within panel_setup _ k.c, (relay_within relay_setup _ k.d k.other, (chime_inside, tt))))))
 
 -- before and after the write of the link
 module _ {ss : List Seat} {a b c : Record} (e : ss ≡ here_with a b c) where
@@ -86,72 +93,112 @@ module _ {ss : List Seat} {a b c d : Record} (e : ss ≡ there_with a b c d) whe
   there_linked f g = record { a = a; b = b; c = c; d = d; seats = e; relay = ap (some_stray true) f ∙ none_stray_here; other = ap (some_stray false) g ∙ none_stray_there }
 
 -- the houses on the way
-abbrev here_linked_seats : List Seat
-here_linked_seats = panel_at 0x30 0 0 ∷ relay_at 0x10 (linked_cells 0x20) 0 ∷ panel_at 0x20 4 2 ∷ []
+abbrev here_with_link : ℕ → ℕ → ℕ → ℕ → List Seat
+here_with_link other one lamps buttons = panel_at 0x30 0 other ∷ relay_at 0x10 (linked_cells 0x20) one ∷ panel_at 0x20 lamps buttons ∷ []
 
-abbrev here_alone_seats : List Seat
-here_alone_seats = panel_at 0x30 0 1 ∷ relay_at 0x10 (linked_cells 0x20) 0 ∷ panel_at 0x20 4 2 ∷ []
+abbrev lossy_first_seats : List Seat
+lossy_first_seats = panel_at 0x30 0 0 ∷ relay_at 0x10 (linked_cells 0x40) 0 ∷ panel_at 0x20 4 2 ∷ []
 
 abbrev there_half_seats : List Seat
 there_half_seats = relay_at 0x10 no_links 0 ∷ panel_at 0x40 0 0 ∷ panel_at 0x20 4 2 ∷ relay_at 0x50 (linked_cells 0x40) 0 ∷ chime ∷ []
 
-abbrev there_linked_seats : List Seat
-there_linked_seats = relay_at 0x10 (linked_cells 0x20) 0 ∷ panel_at 0x40 0 0 ∷ panel_at 0x20 4 2 ∷ relay_at 0x50 (linked_cells 0x40) 0 ∷ chime ∷ []
+abbrev there_with_links : ℕ → ℕ → ℕ → List Seat
+there_with_links one lamps buttons =
+    relay_at 0x10 (linked_cells 0x20) one ∷ panel_at 0x40 0 0 ∷ panel_at 0x20 lamps buttons ∷ relay_at 0x50 (linked_cells 0x40) 0 ∷ chime ∷ []
 
-abbrev there_toggled_seats : List Seat
-there_toggled_seats = relay_at 0x10 (linked_cells 0x20) 1 ∷ panel_at 0x40 0 0 ∷ panel_at 0x20 5 3 ∷ relay_at 0x50 (linked_cells 0x40) 0 ∷ chime ∷ []
-
-here_linking : Course HereKept (quiet here) (linking 144 0x10 0x20) (quiet here_linked_seats)
+here_linking : Course HereKept (quiet here) (linking 144 0x10 0x20) (quiet (here_with_link 0 0 4 2))
 unfolding first
 here_linking = then (here_new refl refl) (then (here_new refl refl) (then (here_linked refl refl) (done (here_linked refl refl))))
 
-here_aside : Course HereKept (quiet here_linked_seats) here_alone (quiet here_alone_seats)
+here_aside : Course HereKept (quiet (here_with_link 0 0 4 2)) here_alone (quiet (here_with_link 1 0 4 2))
 unfolding first
 here_aside = then (here_linked refl refl) (then (here_linked refl refl) (then (here_linked refl refl) (then (here_linked refl refl) (then (here_linked refl refl) (then (here_linked refl refl) (done (here_linked refl refl)))))))
 
-here_toggling : Course HereKept (quiet here_alone_seats) (toggling 144 0x10 0x20 []) (quiet here_end)
+here_toggling : Course HereKept (quiet (here_with_link 1 0 4 2)) (toggling 144 0x10 0x20 []) (quiet (here_with_link 1 1 5 3))
 unfolding first
 here_toggling = then (here_linked refl refl) (then (here_linked refl refl) (then (here_linked refl refl) (then (here_linked refl refl) (then (here_linked refl refl) (done (here_linked refl refl))))))
 
-here_ending : Course HereKept (quiet here_end) (ending 144) (quiet here_end)
+here_unanswered : Course HereKept (quiet (here_with_link 1 1 5 3)) (unanswered 144) (quiet here_end)
 unfolding first
-here_ending = then (here_linked refl refl) (then (here_linked refl refl) (then (here_linked refl refl) (then (here_linked refl refl) (then (here_linked refl refl) (done (here_linked refl refl))))))
+here_unanswered = then (here_linked refl refl) (then (here_linked refl refl) (then (here_linked refl refl) (then (here_linked refl refl) (then (here_linked refl refl) (then (here_linked refl refl) (done (here_linked refl refl)))))))
+
+here_timing : Course HereKept (quiet here_end) (timing 144) (quiet here_end)
+unfolding first
+here_timing = then (here_linked refl refl) (then (here_linked refl refl) (then (here_linked refl refl) (then (here_linked refl refl) (then (here_linked refl refl) (then (here_linked refl refl) (then (here_linked refl refl) (done (here_linked refl refl))))))))
 
 there_outside : Course ThereKept (quiet there) (linking 200 0x50 0x40) (quiet there_half_seats)
 unfolding first
 there_outside = then (there_new refl refl refl) (then (there_new refl refl refl) (then (there_half refl refl refl) (done (there_half refl refl refl))))
 
-there_linking : Course ThereKept (quiet there_half_seats) (linking 200 0x10 0x20) (quiet there_linked_seats)
+there_linking : Course ThereKept (quiet there_half_seats) (linking 200 0x10 0x20) (quiet (there_with_links 0 4 2))
 unfolding first
 there_linking = then (there_half refl refl refl) (then (there_half refl refl refl) (then (there_linked refl refl refl) (done (there_linked refl refl refl))))
 
-there_aside : Course ThereKept (quiet there_linked_seats) there_alone (quiet there_linked_seats)
+there_aside : Course ThereKept (quiet (there_with_links 0 4 2)) there_alone (quiet (there_with_links 0 4 2))
 unfolding first
 there_aside = then (there_linked refl refl refl) (then (there_linked refl refl refl) (then (there_linked refl refl refl) (then (there_linked refl refl refl) (then (there_linked refl refl refl) (then (there_linked refl refl refl) (done (there_linked refl refl refl)))))))
 
-there_toggling : Course ThereKept (quiet there_linked_seats) (toggling 200 0x10 0x20 []) (quiet there_toggled_seats)
+there_toggling : Course ThereKept (quiet (there_with_links 0 4 2)) (toggling 200 0x10 0x20 []) (quiet (there_with_links 1 5 3))
 unfolding first
 there_toggling = then (there_linked refl refl refl) (then (there_linked refl refl refl) (then (there_linked refl refl refl) (then (there_linked refl refl refl) (then (there_linked refl refl refl) (done (there_linked refl refl refl))))))
 
-there_outside_toggling : Course ThereKept (quiet there_toggled_seats) (toggling 200 0x50 0x40 (ding ∷ ding ∷ [])) (quiet there_end)
+there_unanswered : Course ThereKept (quiet (there_with_links 1 5 3)) (unanswered 200) (quiet (there_with_links 1 5 1))
+unfolding first
+there_unanswered = then (there_linked refl refl refl) (then (there_linked refl refl refl) (then (there_linked refl refl refl) (then (there_linked refl refl refl) (then (there_linked refl refl refl) (then (there_linked refl refl refl) (done (there_linked refl refl refl)))))))
+
+there_outside_toggling : Course ThereKept (quiet (there_with_links 1 5 1)) (toggling 200 0x50 0x40 (ding ∷ ding ∷ [])) (quiet there_end)
 unfolding first
 there_outside_toggling = then (there_linked refl refl refl) (then (there_linked refl refl refl) (then (there_linked refl refl refl) (then (there_linked refl refl refl) (then (there_linked refl refl refl) (then (there_linked refl refl refl) (then (there_linked refl refl refl) (done (there_linked refl refl refl))))))))
 
-there_ending : Course ThereKept (quiet there_end) (ending 200) (quiet there_end)
+there_timing : Course ThereKept (quiet there_end) (timing 200) (quiet there_end)
 unfolding first
-there_ending = then (there_linked refl refl refl) (then (there_linked refl refl refl) (then (there_linked refl refl refl) (then (there_linked refl refl refl) (then (there_linked refl refl refl) (done (there_linked refl refl refl))))))
+there_timing = then (there_linked refl refl refl) (then (there_linked refl refl refl) (then (there_linked refl refl refl) (then (there_linked refl refl refl) (then (there_linked refl refl refl) (then (there_linked refl refl refl) (then (there_linked refl refl refl) (done (there_linked refl refl refl))))))))
 
 here_course : Course HereKept (quiet here) here_run (quiet here_end)
-here_course = joined here_linking (joined here_aside (joined here_toggling here_ending))
+here_course = joined here_linking (joined here_aside (joined here_toggling (joined here_unanswered here_timing)))
 
 there_course : Course ThereKept (quiet there) there_run (quiet there_end)
-there_course = joined there_outside (joined there_linking (joined there_aside (joined there_toggling (joined there_outside_toggling there_ending))))
+there_course =
+    joined there_outside
+    (joined there_linking (joined there_aside (joined there_toggling (joined there_unanswered (joined there_outside_toggling there_timing)))))
+
+-- the third run, of which nothing is asked but that it is a run
+lossy_first : Course (λ ss. Unit {0}) (quiet here) (linking 144 0x10 0x40) (quiet lossy_first_seats)
+unfolding first
+lossy_first = then tt (then tt (then tt (done tt)))
+
+lossy_second : Course (λ ss. Unit {0}) (quiet lossy_first_seats) (linking 144 0x10 0x20) (quiet (here_with_link 0 0 4 2))
+unfolding first
+lossy_second = then tt (then tt (then tt (done tt)))
+
+lossy_ending : Course (λ ss. Unit {0}) (quiet (here_with_link 0 0 4 2)) (asking 144 (long_write 0x10) [] ++ (noted (Put (link_write 0x10 0x40)) accepted [] ∷ noted Clear (cleared 1) [] ∷ press 144 0x30 ∷ [])) lossy_end
+unfolding first
+lossy_ending = then tt (then tt (then tt (then tt (then tt (done tt)))))
+
+lossy_course : Course (λ ss. Unit {0}) (quiet here) lossy_run lossy_end
+lossy_course = joined lossy_first (joined lossy_second lossy_ending)
+
+-- the faulty house
+faulty_lawful : AllByRecursion Lawful faulty
+faulty_lawful = (panel_lawful 0x20 4 2, (panel_lawful 0x20 0 0, tt))
+
+faulty_within : AllByRecursion Within faulty
+faulty_within = (panel_within panel_setup 0x20 (panel_at 0x20 4 2).content, (panel_within panel_setup 0x20 (panel_at 0x20 0 0).content, tt))
+
+faulty_apart : Apart group faulty faulty_run faulty
+faulty_apart =
+    let border = uncrossed faulty faulty_within in
+    record { run = (refl, (refl, refl)); border = (border, (border, border)); clears = clears_nothing faulty_run refl }
+
+longer_apart : Apart group (chime ∷ faulty) [] (chime ∷ faulty)
+longer_apart = record { run = refl; border = uncrossed (chime ∷ faulty) (chime_inside, faulty_within); clears = tt }
 
 pub premises_met : PremisesMet
 premises_met =
     record {
       here_stands = (omega arith, ((omega arith, panel_lawful 0x30 0 0), ((omega arith, relay_lawful 0x10), ((omega arith, panel_lawful 0x20 4 2), tt))));
       there_stands = (omega arith, ((omega arith, relay_lawful 0x10), ((omega arith, panel_lawful 0x40 0 0), ((omega arith, panel_lawful 0x20 4 2), ((omega arith, relay_lawful 0x50), ((omega arith, chime_is_lawful), tt))))));
+      faulty_stands = (omega arith, ((omega arith, panel_lawful 0x20 4 2), ((omega arith, panel_lawful 0x20 0 0), tt)));
       compared =
           record {
             lawful = (relay_lawful 0x10, (panel_lawful 0x40 0 0, (panel_lawful 0x20 4 2, (relay_lawful 0x50, (chime_is_lawful, tt)))));
@@ -170,7 +217,9 @@ premises_met =
                 };
             calls = refl;
           };
-      lossy = (refl, (refl, (refl, refl)));
+      lossy = run_of lossy_course;
+      faulty_compared =
+          record { lawful = (chime_is_lawful, faulty_lawful); alike = refl; here = faulty_apart; there = longer_apart; calls = refl };
     }
 
 pub much_happens : MuchHappens
@@ -184,7 +233,7 @@ much_happens =
       other_links = (refl, refl);
       calls = refl;
       first_cell = refl;
-      last_cell = refl;
+      last_cell = (refl, refl);
       frames = refl;
       here_others = refl;
       there_others = refl;
@@ -195,11 +244,16 @@ pub laws_applied : LawsApplied
 laws_applied =
     let p = premises_met in
     let c = p.compared in
-    let group_alike = isolation_stands here p.here_stands group here_run here_end there there_run there_end c in
+    let d = p.faulty_compared in
+    let alike = isolation_stands here p.here_stands group here_run here_end there there_run there_end c in
+    let faulty_alike = isolation_stands faulty p.faulty_stands group faulty_run faulty (chime ∷ faulty) [] (chime ∷ faulty) d in
     record {
       here_memory = memory_stands here p.here_stands here_run (quiet here_end) c.here.run;
       there_memory = memory_stands there p.there_stands there_run (quiet there_end) c.there.run;
       lossy_memory = memory_stands here p.here_stands lossy_run lossy_end p.lossy;
-      same_end = group_alike.0;
-      same_frames = group_alike.1;
+      faulty_memory = memory_stands faulty p.faulty_stands faulty_run (quiet faulty) d.here.run;
+      same_end = alike.0;
+      same_frames = alike.1;
+      faulty_end = faulty_alike.0;
+      faulty_frames = faulty_alike.1;
     }

@@ -1,11 +1,11 @@
 -- Worked runs: two houses that have a relay and a panel in common and differ in all else. Assumes nothing.
-use Rattle.std.specs.Prelude.{◌≡◌, ℕ, zero, suc, Bool, true, not, List, [], ◌∷◌, ◌++◌, map, length, replicate, Some, ◌==◌}
+use Rattle.std.specs.Prelude.{◌≡◌, ℕ, zero, suc, Bool, true, not, List, [], ◌∷◌, ◌++◌, length, replicate, Some, ◌==◌}
 use Rattle.std.specs.List.{list_any}
 use Rattle.bus.specs.declared.frame.Frame.{Frame}
 use Rattle.bus.specs.Frames.{message}
 use Rattle.station.specs.Kinds.{Seat}
 use Rattle.station.specs.Rules.{put, Stands}
-use Rattle.station.specs.Seats.{first_byte}
+use Rattle.station.specs.Seats.{first_buttons, first_byte}
 use Rattle.panel.specs.declared.panel.PanelSetup.{PanelSetup}
 use Rattle.relay.specs.declared.relay.RelaySetup.{RelaySetup}
 use Rattle.relay.specs.declared.timers.Timers.{Timers}
@@ -45,18 +45,19 @@ panel_at address lamps buttons =
 abbrev pub chime : Seat
 chime = record { kind = chime_kind 5; address = 0x30; content = record { cells = replicate 37 255; state = 0x40 ∷ 2 ∷ [] } }
 
--- the cells of a relay that links nothing, and of one whose channel 1 is toggled by button 1 at an address
+-- the cells of a relay that links nothing
 abbrev pub no_links : List ℕ
 no_links = replicate 1024 255
 
+-- the cells of one whose channel 1 is toggled by button 1 of a panel
 abbrev pub linked_cells : ℕ → List ℕ
 linked_cells panel = put no_links 0x3C (panel ∷ 0x01 ∷ 0xFF ∷ 0xFF ∷ [])
 
--- the houses at the start. The panel 0x20 was used before: lamp 3 is on, and button 2 is down. At 0x30 each house has
--- another module
+-- a house at the start. The panel 0x20 was used before: lamp 3 is on, and button 2 is down
 abbrev pub here : List Seat
 here = panel_at 0x30 0 0 ∷ relay_at 0x10 no_links 0 ∷ panel_at 0x20 4 2 ∷ []
 
+-- another house at the start, with the same relay 0x10 and the same panel 0x20, but a chime at 0x30
 abbrev pub there : List Seat
 there = relay_at 0x10 no_links 0 ∷ panel_at 0x40 0 0 ∷ panel_at 0x20 4 2 ∷ relay_at 0x50 no_links 0 ∷ chime ∷ []
 
@@ -72,17 +73,22 @@ link_write relay panel = message 3 relay (0xCA ∷ 0x00 ∷ 0x3C ∷ panel ∷ 0
 abbrev pub link_answer : ℕ → ℕ → Frame
 link_answer relay panel = message 3 relay (0xCC ∷ 0x00 ∷ 0x3C ∷ panel ∷ 0x01 ∷ 0xFF ∷ 0xFF ∷ [])
 
--- the button status of button 1, just pressed; a relay sends the same when its channel 1 closes
-abbrev pub one_pressed : ℕ → Frame
-one_pressed address = message 0 address (0x00 ∷ 0x01 ∷ 0x00 ∷ 0x00 ∷ [])
+-- a button status: these buttons were just pressed, these released, a bit for each. A relay sends the same when its channels
+-- close and open
+abbrev pub buttons_told : ℕ → ℕ → ℕ → Frame
+buttons_told address pressed released = message 0 address (0x00 ∷ pressed ∷ released ∷ 0x00 ∷ [])
 
--- a relay tells that its channel 1 is closed
-abbrev pub one_closed : ℕ → Frame
-one_closed relay = message 3 relay (0xFB ∷ 0x01 ∷ 0x00 ∷ 0x01 ∷ 0x00 ∷ 0x00 ∷ 0x00 ∷ 0x00 ∷ [])
+-- a channel status, by the channel's bit: 0 is open, 1 closed, 3 closed for so many seconds more
+abbrev pub channel_told : ℕ → ℕ → ℕ → ℕ → Frame
+channel_told relay bit state seconds = message 3 relay (0xFB ∷ bit ∷ 0x00 ∷ state ∷ 0x00 ∷ 0x00 ∷ 0x00 ∷ seconds ∷ [])
 
 -- lamp 1 of a panel is to be on
 abbrev pub one_lit : ℕ → Frame
 one_lit panel = message 3 panel (0xF6 ∷ 0x01 ∷ [])
+
+-- channel 2 of a relay is to be closed for a second
+abbrev pub two_start : ℕ → Frame
+two_start relay = message 3 relay (0x03 ∷ 0x02 ∷ 0x00 ∷ 0x00 ∷ 0x01 ∷ [])
 
 -- the time of day for every module: none of these answers it
 abbrev pub time_of_day : Frame
@@ -100,35 +106,43 @@ ding = stroke 5 0x30
 abbrev pub noted : Call → Answer → List Frame → Entry
 noted c r fs = record { call = c; answer = r; sent = fs }
 
--- in what follows, n is the number of places in the buffer of each call
-
--- button 1 is pressed, which is told
-abbrev pub press : ℕ → ℕ → Entry
-press n panel = noted (Push panel 1 0 n) (counts 1 1) (one_pressed panel ∷ [])
-
--- a frame passes and these are sent, when none else is pending; then they pass one by one, and nothing more is sent
+-- below, n is the number of places in the buffer of each call. Frames pass until none is pending, and nothing more is sent
 abbrev pub emptying : ℕ → ℕ → List Entry
 emptying n zero = []
 emptying n (suc k) = noted (Step n) (counts 0 k) [] ∷ emptying n k
 
+-- the one pending frame passes, and these are sent; then they pass
 abbrev pub answered_by : ℕ → List Frame → List Entry
 answered_by n fs = noted (Step n) (counts (length fs) (length fs)) fs ∷ emptying n (length fs)
 
--- a frame is put, it passes, and these are sent
+-- a frame is put, and answered by these
 abbrev pub asking : ℕ → Frame → List Frame → List Entry
 asking n f fs = noted (Put f) accepted [] ∷ answered_by n fs
 
--- the calls that the runs are made of: a link is written
+-- button 1 is pressed, which the panel tells
+abbrev pub press : ℕ → ℕ → Entry
+press n panel = noted (Push panel 1 0 n) (counts 1 1) (buttons_told panel 1 0 ∷ [])
+
+-- a link is written
 abbrev pub linking : ℕ → ℕ → ℕ → List Entry
 linking n relay panel = asking n (link_write relay panel) (link_answer relay panel ∷ [])
 
--- the linked button is pressed: the relay hears it and sends three frames, the last to the panel. Others send theirs
+-- the linked button is pressed: the relay hears it and sends three frames, the last to the panel; others send theirs
 abbrev pub toggling : ℕ → ℕ → ℕ → List Frame → List Entry
-toggling n relay panel others = press n panel ∷ answered_by n (one_closed relay ∷ one_pressed relay ∷ one_lit panel ∷ others)
+toggling n relay panel others =
+    press n panel ∷ answered_by n (channel_told relay 1 1 0 ∷ buttons_told relay 1 0 ∷ one_lit panel ∷ others)
 
--- two frames that nobody answers, and a second
-abbrev pub ending : ℕ → List Entry
-ending n = asking n time_of_day [] ++ (asking n (type_request 0x77) [] ++ (noted (Second n) (counts 0 0) [] ∷ []))
+-- two frames that no module answers; and button 2 of the panel is released, which no module links
+abbrev pub unanswered : ℕ → List Entry
+unanswered n =
+    asking n time_of_day []
+    ++ (asking n (type_request 0x77) [] ++ (noted (Push 0x20 2 1 n) (counts 1 1) (buttons_told 0x20 0 2 ∷ []) ∷ answered_by n []))
+
+-- channel 2 of the relay is closed for a second, and the second passes
+abbrev pub timing : ℕ → List Entry
+timing n =
+    asking n (two_start 0x10) (channel_told 0x10 2 3 1 ∷ buttons_told 0x10 2 0 ∷ [])
+    ++ (noted (Second n) (counts 2 2) (channel_told 0x10 2 0 0 ∷ buttons_told 0x10 0 2 ∷ []) ∷ emptying n 2)
 
 -- in one house alone: a button that no module links is pressed. Before the frame has passed, a push and a put are refused.
 -- A byte is read: the panel's lamps. A clear removes nothing
@@ -148,57 +162,95 @@ there_alone =
     ∷ noted (Second 44) (refused 4) []
     ∷ asking 200 (type_request 0x99) [] ++ (noted (Push 0x30 1 0 200) (counts 1 1) (ding ∷ []) ∷ answered_by 200 [])
 
--- the two runs
+-- the run of the one house
 abbrev pub here_run : List Entry
-here_run = linking 144 0x10 0x20 ++ (here_alone ++ (toggling 144 0x10 0x20 [] ++ ending 144))
+here_run = linking 144 0x10 0x20 ++ (here_alone ++ (toggling 144 0x10 0x20 [] ++ (unanswered 144 ++ timing 144)))
 
+-- the run of the other: it links and toggles its own relay too, and the chime strikes with it
 abbrev pub there_run : List Entry
-there_run = linking 200 0x50 0x40 ++ (linking 200 0x10 0x20 ++ (there_alone ++ (toggling 200 0x10 0x20 [] ++ (toggling 200 0x50 0x40 (ding ∷ ding ∷ []) ++ ending 200))))
+there_run =
+    linking 200 0x50 0x40
+    ++ (linking 200 0x10 0x20
+    ++ (there_alone
+    ++ (toggling 200 0x10 0x20 [] ++ (unanswered 200 ++ (toggling 200 0x50 0x40 (ding ∷ ding ∷ []) ++ timing 200)))))
 
--- the houses at the end
+-- the one house at the end
 abbrev pub here_end : List Seat
-here_end = panel_at 0x30 0 1 ∷ relay_at 0x10 (linked_cells 0x20) 1 ∷ panel_at 0x20 5 3 ∷ []
+here_end = panel_at 0x30 0 1 ∷ relay_at 0x10 (linked_cells 0x20) 1 ∷ panel_at 0x20 5 1 ∷ []
 
+-- the other at the end
 abbrev pub there_end : List Seat
-there_end = relay_at 0x10 (linked_cells 0x20) 1 ∷ panel_at 0x40 1 1 ∷ panel_at 0x20 5 3 ∷ relay_at 0x50 (linked_cells 0x40) 1 ∷ chime ∷ []
+there_end = relay_at 0x10 (linked_cells 0x20) 1 ∷ panel_at 0x40 1 1 ∷ panel_at 0x20 5 1 ∷ relay_at 0x50 (linked_cells 0x40) 1 ∷ chime ∷ []
 
--- a third run, for the law of memory alone: a clear removes a write before it has passed, and a frame is pending in the end
+-- a write of a link that begins three cells before the end of the memory: one byte has no cell
+abbrev pub long_write : ℕ → Frame
+long_write relay = message 3 relay (0xCA ∷ 0x03 ∷ 0xFD ∷ 0x20 ∷ 0x01 ∷ 0xFF ∷ 0xFF ∷ [])
+
+-- a third run, for the law of memory alone. One write comes after another to the same cells, one reaches past the end, and
+-- one is removed by a clear before it has passed; a frame is pending in the end
 abbrev pub lossy_run : List Entry
-lossy_run = noted (Put (link_write 0x10 0x20)) accepted [] ∷ noted Clear (cleared 1) [] ∷ press 144 0x20 ∷ []
+lossy_run =
+    linking 144 0x10 0x40
+    ++ (linking 144 0x10 0x20
+    ++ (asking 144 (long_write 0x10) []
+    ++ (noted (Put (link_write 0x10 0x40)) accepted [] ∷ noted Clear (cleared 1) [] ∷ press 144 0x30 ∷ [])))
 
+-- how it ends
 abbrev pub lossy_end : Bus
-lossy_end = record { seats = panel_at 0x30 0 0 ∷ relay_at 0x10 no_links 0 ∷ panel_at 0x20 4 3 ∷ []; pending = one_pressed 0x20 ∷ [] }
+lossy_end =
+    record { seats = panel_at 0x30 0 1 ∷ relay_at 0x10 (linked_cells 0x20) 0 ∷ panel_at 0x20 4 2 ∷ []; pending = buttons_told 0x30 1 0 ∷ [] }
 
--- what the laws ask for: the seats are those of a station, the law of isolation can compare the first two runs, and the
--- third is a run
+-- a house that was built with a fault: two panels have one address
+abbrev pub faulty : List Seat
+faulty = panel_at 0x20 4 2 ∷ panel_at 0x20 0 0 ∷ []
+
+-- there each call is refused, but that of a byte
+abbrev pub faulty_run : List Entry
+faulty_run = noted (Put time_of_day) (refused 2) [] ∷ noted (Record 0x20 256) (byte (Some 4)) [] ∷ []
+
+-- what the laws ask for: the seats are those of a station, and the law of isolation can compare the first two runs. For it
+-- the faulty house is compared with the same one with a chime in front, where nothing was called
 pub record PremisesMet : Type 0 where
   pub here_stands : Stands here
   pub there_stands : Stands there
+  pub faulty_stands : Stands faulty
   pub compared : Compared group here here_run here_end there there_run there_end
   pub lossy : Run (quiet here) lossy_run lossy_end
+  pub faulty_compared : Compared group faulty faulty_run faulty (chime ∷ faulty) [] (chime ∷ faulty)
 
--- what there is to see in the runs. In order: the houses have other sizes, and the runs other lengths; the address 0x30 has
--- other kinds; a link inside the group; two outside it, one of them from the start; the calls that concern the group; the
--- cell of the link at the start and at the end; the frames of the group; all other frames in each house
+-- what there is to see in the runs. In order: the houses have other sizes, and the runs other lengths; the module at 0x30 has
+-- eight buttons in one house, and one in the other; a link inside the group; two outside it, one of them from the start;
+-- the calls that concern the group; the cell of the link at the start, at the end, and at the end of the third run; the
+-- frames of the group; all other frames in each house
 pub record MuchHappens : Type 0 where
   pub houses : (length here ≡ 3) × (length there ≡ 5)
-  pub runs : (length here_run ≡ 19) × (length there_run ≡ 29)
-  pub buttons : (map (λ s. s.kind.buttons) (members (λ a. a == 0x30) here) ≡ 8 ∷ []) × (map (λ s. s.kind.buttons) (members (λ a. a == 0x30) there) ≡ 1 ∷ [])
+  pub runs : (length here_run ≡ 27) × (length there_run ≡ 37)
+  pub buttons : (first_buttons 0x30 here ≡ 8) × (first_buttons 0x30 there ≡ 1)
   pub inner_link : link here_end 0x10 0x20 ≡ true
   pub other_links : (link there_end 0x50 0x40 ≡ true) × (link there 0x30 0x40 ≡ true)
-  pub calls : concerning group here_run ≡ Put (link_write 0x10 0x20) ∷ Push 0x20 1 0 0 ∷ Put time_of_day ∷ Put (type_request 0x77) ∷ Second 0 ∷ []
+  pub calls :
+      concerning group here_run ≡ Put (link_write 0x10 0x20) ∷ Push 0x20 1 0 0 ∷ Put time_of_day ∷ Put (type_request 0x77) ∷ Push 0x20 2 1 0 ∷ Put (two_start 0x10) ∷ Second 0 ∷ []
   pub first_cell : first_byte 0x10 0x3C here ≡ Some 0xFF
-  pub last_cell : first_byte 0x10 0x3C here_end ≡ Some 0x20
-  pub frames : frames_of group (all_sent here_run) ≡ link_answer 0x10 0x20 ∷ one_pressed 0x20 ∷ one_closed 0x10 ∷ one_pressed 0x10 ∷ one_lit 0x20 ∷ []
-  pub here_others : frames_of (λ a. not (group a)) (all_sent here_run) ≡ one_pressed 0x30 ∷ []
+  pub last_cell : (first_byte 0x10 0x3C here_end ≡ Some 0x20) × (first_byte 0x10 0x3C lossy_end.seats ≡ Some 0x20)
+  pub frames :
+      frames_of group (all_sent here_run) ≡ link_answer 0x10 0x20
+      ∷ buttons_told 0x20 1 0 ∷ channel_told 0x10 1 1 0 ∷ buttons_told 0x10 1 0 ∷ one_lit 0x20
+      ∷ buttons_told 0x20 0 2
+      ∷ channel_told 0x10 2 3 1 ∷ buttons_told 0x10 2 0 ∷ channel_told 0x10 2 0 0 ∷ buttons_told 0x10 0 2 ∷ []
+  pub here_others : frames_of (λ a. not (group a)) (all_sent here_run) ≡ buttons_told 0x30 1 0 ∷ []
   pub there_others :
-      frames_of (λ a. not (group a)) (all_sent there_run) ≡ link_answer 0x50 0x40 ∷ ding ∷ one_pressed 0x40 ∷ one_closed 0x50 ∷ one_pressed 0x50 ∷ one_lit 0x40 ∷ ding ∷ ding ∷ []
+      frames_of (λ a. not (group a)) (all_sent there_run) ≡ link_answer 0x50 0x40
+      ∷ ding
+      ∷ buttons_told 0x40 1 0 ∷ channel_told 0x50 1 1 0 ∷ buttons_told 0x50 1 0 ∷ one_lit 0x40 ∷ ding ∷ ding ∷ []
 
--- what the laws say of the runs. In order: ledger and house agree all through each run; the group ends alike in the first
--- two, and sends alike
+-- what the laws say of the runs. In order: ledger and house agree all through each run; in the first two the group's seats
+-- are the same at the end, and so are its frames; the same of the faulty house
 pub record LawsApplied : Type 0 where
   pub here_memory : Throughout here (new_ledger here) (quiet here) here_run
   pub there_memory : Throughout there (new_ledger there) (quiet there) there_run
   pub lossy_memory : Throughout here (new_ledger here) (quiet here) lossy_run
+  pub faulty_memory : Throughout faulty (new_ledger faulty) (quiet faulty) faulty_run
   pub same_end : members group here_end ≡ members group there_end
   pub same_frames : frames_of group (all_sent here_run) ≡ frames_of group (all_sent there_run)
+  pub faulty_end : members group faulty ≡ members group (chime ∷ faulty)
+  pub faulty_frames : frames_of group (all_sent faulty_run) ≡ []
