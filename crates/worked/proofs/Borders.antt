@@ -1,5 +1,5 @@
 -- Which seats link nothing across the border of the group. Assumes nothing.
-use Rattle.std.proofs.Common.{replicate, ◌≡◌, ℕ, zero, suc, ◌<◌, Bool, true, false, cond, not, ◌||◌, List, [], ◌∷◌, is_some, Some, None, ◌==◌, nat_le, nat_lt, ◌&&◌, slice_index, sym, refl, ap, ◌∙◌, inl, inr, arith}
+use Rattle.std.proofs.Common.{◌≡◌, ℕ, zero, suc, ◌<◌, Bool, true, false, cond, not, ◌||◌, List, [], ◌∷◌, is_some, Some, None, ◌==◌, nat_le, nat_lt, ◌&&◌, slice_index, sym, refl, ap, ◌∙◌, inl, inr, arith}
 use Rattle.std.specs.List.{AllByRecursion}
 use Rattle.std.proofs.lemmas.Bool.{and_parts, or_cases, or_parts, cases_Bool, eqb-true, ltb-true, leb-true, both_ways, false≢true}
 use Rattle.module.specs.Searches.{first}
