@@ -83,11 +83,11 @@ module _ (side : Bool) (cells : List ℕ) (a : ℕ) where
             ]
       ]
 
--- the seat links nothing across the border
-abbrev pub Within : Seat → Type 0
-Within s = (c : ℕ) → links s.kind s.address s.content c ≡ true → group s.address ≡ group c
+-- the seat links nothing across the border of a set
+abbrev pub Within : (ℕ → Bool) → Seat → Type 0
+Within g s = (c : ℕ) → links s.kind s.address s.content c ≡ true → g s.address ≡ g c
 
-pub relay_within : (s : RelaySetup) (own : ℕ) (r : Record) → some_stray (group own) r.cells ≡ false → Within (record { kind = relay_kind s; address = own; content = r })
+pub relay_within : (s : RelaySetup) (own : ℕ) (r : Record) → some_stray (group own) r.cells ≡ false → Within group (record { kind = relay_kind s; address = own; content = r })
 relay_within s own r none c l =
     let inside = and_parts (nat_lt c 255) _ (and_parts (nat_lt 0 c) _ l).1 in
     let below : c < 255 = ltb-true c 255 inside.0 in
@@ -97,24 +97,25 @@ relay_within s own r none c l =
       | inr e ↦ same_eq (group own) (group c) e
     ]
 
--- a panel links nothing
-pub panel_within : (s : PanelSetup) (own : ℕ) (r : Record) → Within (record { kind = panel_kind s; address = own; content = r })
-panel_within s own r c l = absurd (false≢true (and_parts (not (c == own)) false (and_parts (nat_lt c 255) _ (and_parts (nat_lt 0 c) _ l).1).1).1)
+module _ (g : ℕ → Bool) where
+  -- a panel links nothing
+  pub panel_within : (s : PanelSetup) (own : ℕ) (r : Record) → Within g (record { kind = panel_kind s; address = own; content = r })
+  panel_within s own r c l = absurd (false≢true (and_parts (not (c == own)) false (and_parts (nat_lt c 255) _ (and_parts (nat_lt 0 c) _ l).1).1).1)
 
--- a chime links the one address that it follows
-pub chime_within : (tone own : ℕ) (r : Record) → group own ≡ group (followed r) → Within (record { kind = chime_kind tone; address = own; content = r })
-chime_within tone own r same_side c l =
-    let inside = and_parts (nat_lt c 255) _ (and_parts (nat_lt 0 c) _ l).1 in
-    same_side ∙ ap group (sym (eqb-true c (followed r) (and_parts (not (c == own)) (c == followed r) inside.1).1))
+  -- a chime links the one address that it follows
+  pub chime_within : (tone own : ℕ) (r : Record) → g own ≡ g (followed r) → Within g (record { kind = chime_kind tone; address = own; content = r })
+  chime_within tone own r same_side c l =
+      let inside = and_parts (nat_lt c 255) _ (and_parts (nat_lt 0 c) _ l).1 in
+      same_side ∙ ap g (sym (eqb-true c (followed r) (and_parts (not (c == own)) (c == followed r) inside.1).1))
 
-pub uncrossed : (ss : List Seat) → AllByRecursion Within ss → Uncrossed group ss
-uncrossed [] h b c e = absurd (false≢true e)
-uncrossed (s ∷ ss) h b c e =
-    let links_c = links s.kind s.address s.content c in
-    elim (or_cases (s.address == b && links_c) (link ss b c) e) [
-      | inl l ↦ let both = and_parts (s.address == b) links_c l in ap group (sym (eqb-true s.address b both.0)) ∙ h.0 c both.1
-      | inr r ↦ uncrossed ss h.1 b c r
-    ]
+  pub uncrossed : (ss : List Seat) → AllByRecursion (Within g) ss → Uncrossed g ss
+  uncrossed [] h b c e = absurd (false≢true e)
+  uncrossed (s ∷ ss) h b c e =
+      let links_c = links s.kind s.address s.content c in
+      elim (or_cases (s.address == b && links_c) (link ss b c) e) [
+        | inl l ↦ let both = and_parts (s.address == b) links_c l in ap g (sym (eqb-true s.address b both.0)) ∙ h.0 c both.1
+        | inr r ↦ uncrossed ss h.1 b c r
+      ]
 
 -- the cells without links have no such pair, and the linked ones neither
 pub none_stray : (side : Bool) → some_stray side no_links ≡ false

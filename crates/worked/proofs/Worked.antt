@@ -1,5 +1,5 @@
 -- The worked runs meet the premises. Assumes nothing.
-use Rattle.std.proofs.Common.{◌≡◌, ℕ, true, false, List, [], ◌∷◌, ◌++◌, refl, sym, subst, ap, ◌∙◌, arith, rules}
+use Rattle.std.proofs.Common.{◌≡◌, ℕ, Bool, true, false, List, [], ◌∷◌, ◌++◌, refl, sym, subst, ap, ◌∙◌, arith, rules}
 use Rattle.module.specs.Designs.{Orderly}
 use Rattle.module.specs.Orderly.{orderly_lawful}
 use Rattle.module.specs.Searches.{first}
@@ -17,7 +17,7 @@ use Rattle.chime.specs.Lawful.{chime_lawful}
 use Rattle.runs.specs.Runs.{quiet}
 use Rattle.runs.proofs.Stations.{memory_stands, isolation_stands}
 use Rattle.groups.specs.Links.{Uncrossed}
-use Rattle.worked.specs.WorkedRun.{relay_setup, panel_setup, relay_at, panel_at, chime, no_links, linked_cells, here, there, faulty, group, ding, link_write, long_write, noted, press, asking, linking, toggling, unanswered, timing, here_alone, there_alone, here_run, there_run, here_end, there_end, lossy_run, lossy_end, faulty_run, PremisesMet, MuchHappens, LawsApplied}
+use Rattle.worked.specs.WorkedRun.{relay_setup, panel_setup, relay_at, panel_at, chime, no_links, linked_cells, here, there, faulty, group, alone, ding, link_write, long_write, noted, press, asking, linking, toggling, unanswered, timing, here_alone, there_alone, here_run, there_run, here_end, there_end, lossy_run, lossy_end, faulty_run, PremisesMet, MuchHappens, LawsApplied}
 use Rattle.worked.proofs.Borders.{Within, some_stray, none_stray, none_stray_here, none_stray_there, relay_within, panel_within, chime_within, uncrossed}
 use Rattle.worked.proofs.Runs.{Course, then, done, joined, run_of, always_of, clears_nothing}
 
@@ -33,8 +33,8 @@ panel_lawful a lamps buttons = orderly_lawful (panel_design _) a _ (panel_orderl
 chime_is_lawful : Lawful chime
 chime_is_lawful = chime_lawful 5 0x30 _ (record { full = refl; few = omega arith })
 
-chime_inside : Within chime
-chime_inside = chime_within 5 0x30 chime.content refl
+chime_inside : (g : ℕ → Bool) → g 0x30 ≡ g 0x40 → Within g chime
+chime_inside g e = chime_within g 5 0x30 chime.content e
 
 -- a seat whatever it remembers
 abbrev recalling : Record → Seat → Seat
@@ -66,12 +66,12 @@ record ThereKept (ss : List Seat) : Type 0 where
 here_uncrossed : (ss : List Seat) → HereKept ss → Uncrossed group ss
 here_uncrossed ss k =
     subst (Uncrossed group) (sym k.seats)
-    (uncrossed (here_with k.a k.b k.c) (panel_within panel_setup _ k.a, (relay_within relay_setup _ k.b k.relay, (panel_within panel_setup _ k.c, tt))))
+    (uncrossed group (here_with k.a k.b k.c) (panel_within group panel_setup _ k.a, (relay_within relay_setup _ k.b k.relay, (panel_within group panel_setup _ k.c, tt))))
 
 there_uncrossed : (ss : List Seat) → ThereKept ss → Uncrossed group ss
 there_uncrossed ss k =
     subst (Uncrossed group) (sym k.seats)
-    (uncrossed (there_with k.a k.b k.c k.d) (relay_within relay_setup _ k.a k.relay, (panel_within panel_setup _ k.b, (panel_within panel_setup _ k.c, (relay_within relay_setup _ k.d k.other, (chime_inside, tt))))))
+    (uncrossed group (there_with k.a k.b k.c k.d) (relay_within relay_setup _ k.a k.relay, (panel_within group panel_setup _ k.b, (panel_within group panel_setup _ k.c, (relay_within relay_setup _ k.d k.other, (chime_inside group refl, tt))))))
 
 -- before and after the write of the link
 module _ {ss : List Seat} {a b c : Record} (e : ss ≡ here_with a b c) where
@@ -182,16 +182,17 @@ lossy_course = joined lossy_first (joined lossy_second lossy_ending)
 faulty_lawful : AllByRecursion Lawful faulty
 faulty_lawful = (panel_lawful 0x20 4 2, (panel_lawful 0x20 0 0, tt))
 
-faulty_within : AllByRecursion Within faulty
-faulty_within = (panel_within panel_setup 0x20 (panel_at 0x20 4 2).content, (panel_within panel_setup 0x20 (panel_at 0x20 0 0).content, tt))
+module _ (g : ℕ → Bool) where
+  faulty_within : AllByRecursion (Within g) faulty
+  faulty_within = (panel_within g panel_setup 0x20 (panel_at 0x20 4 2).content, (panel_within g panel_setup 0x20 (panel_at 0x20 0 0).content, tt))
 
-faulty_apart : Apart group faulty faulty_run faulty
-faulty_apart =
-    let border = uncrossed faulty faulty_within in
-    record { run = (refl, (refl, refl)); border = (border, (border, border)); clears = clears_nothing faulty_run refl }
+  faulty_apart : Apart g faulty faulty_run faulty
+  faulty_apart =
+      let border = uncrossed g faulty faulty_within in
+      record { run = (refl, (refl, refl)); border = (border, (border, border)); clears = clears_nothing faulty_run refl }
 
-longer_apart : Apart group (chime ∷ faulty) [] (chime ∷ faulty)
-longer_apart = record { run = refl; border = uncrossed (chime ∷ faulty) (chime_inside, faulty_within); clears = tt }
+  longer_apart : g 0x30 ≡ g 0x40 → Apart g (chime ∷ faulty) [] (chime ∷ faulty)
+  longer_apart e = record { run = refl; border = uncrossed g (chime ∷ faulty) (chime_inside g e, faulty_within); clears = tt }
 
 pub premises_met : PremisesMet
 premises_met =
@@ -219,7 +220,7 @@ premises_met =
           };
       lossy = run_of lossy_course;
       faulty_compared =
-          record { lawful = (chime_is_lawful, faulty_lawful); alike = refl; here = faulty_apart; there = longer_apart; calls = refl };
+          record { lawful = (chime_is_lawful, faulty_lawful); alike = refl; here = faulty_apart alone; there = longer_apart alone refl; calls = refl };
     }
 
 pub much_happens : MuchHappens
@@ -246,7 +247,7 @@ laws_applied =
     let c = p.compared in
     let d = p.faulty_compared in
     let alike = isolation_stands here p.here_stands group here_run here_end there there_run there_end c in
-    let faulty_alike = isolation_stands faulty p.faulty_stands group faulty_run faulty (chime ∷ faulty) [] (chime ∷ faulty) d in
+    let faulty_alike = isolation_stands faulty p.faulty_stands alone faulty_run faulty (chime ∷ faulty) [] (chime ∷ faulty) d in
     record {
       here_memory = memory_stands here p.here_stands here_run (quiet here_end) c.here.run;
       there_memory = memory_stands there p.there_stands there_run (quiet there_end) c.there.run;

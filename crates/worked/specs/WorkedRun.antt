@@ -65,6 +65,10 @@ there = relay_at 0x10 no_links 0 ∷ panel_at 0x40 0 0 ∷ panel_at 0x20 4 2 ∷
 abbrev pub group : ℕ → Bool
 group a = list_any (λ b. a == b) (0 ∷ 0x10 ∷ 0x20 ∷ 0x77 ∷ 255 ∷ [])
 
+-- another group, of one address
+abbrev pub alone : ℕ → Bool
+alone a = a == 0x20
+
 -- the write of a link: the first pair of channel 1 in a relay's toggle table bears that address and its button 1
 abbrev pub link_write : ℕ → ℕ → Frame
 link_write relay panel = message 3 relay (0xCA ∷ 0x00 ∷ 0x3C ∷ panel ∷ 0x01 ∷ 0xFF ∷ 0xFF ∷ [])
@@ -216,7 +220,7 @@ pub record PremisesMet : Type 0 where
   pub faulty_stands : Stands faulty
   pub compared : Compared group here here_run here_end there there_run there_end
   pub lossy : Run (quiet here) lossy_run lossy_end
-  pub faulty_compared : Compared group faulty faulty_run faulty (chime ∷ faulty) [] (chime ∷ faulty)
+  pub faulty_compared : Compared alone faulty faulty_run faulty (chime ∷ faulty) [] (chime ∷ faulty)
 
 -- what there is to see in the runs. In order: the houses have other sizes, and the runs other lengths; the module at 0x30 has
 -- eight buttons in one house, and one in the other; a link inside the group; two outside it, one of them from the start;
@@ -252,5 +256,5 @@ pub record LawsApplied : Type 0 where
   pub faulty_memory : Throughout faulty (new_ledger faulty) (quiet faulty) faulty_run
   pub same_end : members group here_end ≡ members group there_end
   pub same_frames : frames_of group (all_sent here_run) ≡ frames_of group (all_sent there_run)
-  pub faulty_end : members group faulty ≡ members group (chime ∷ faulty)
-  pub faulty_frames : frames_of group (all_sent faulty_run) ≡ []
+  pub faulty_end : members alone faulty ≡ members alone (chime ∷ faulty)
+  pub faulty_frames : frames_of alone (all_sent faulty_run) ≡ []
