@@ -17,7 +17,7 @@ use Rattle.chime.specs.Lawful.{chime_lawful}
 use Rattle.runs.specs.Runs.{quiet}
 use Rattle.runs.proofs.Stations.{memory_stands, isolation_stands}
 use Rattle.groups.specs.Links.{Uncrossed}
-use Rattle.worked.specs.WorkedRun.{relay_setup, panel_setup, relay_at, panel_at, chime, no_links, linked_cells, here, there, faulty, group, alone, ding, link_write, long_write, noted, press, asking, linking, toggling, unanswered, timing, here_alone, there_alone, here_run, there_run, here_end, there_end, lossy_run, lossy_end, faulty_run, PremisesMet, MuchHappens, LawsApplied}
+use Rattle.worked.specs.WorkedRun.{relay_setup, panel_setup, relay_at, panel_at, chime, no_links, linked_cells, here, there, faulty, group, panel_only, ding, link_write, long_write, noted, press, asking, linking, toggling, unanswered, timing, here_alone, there_alone, here_run, there_run, here_end, there_end, lossy_run, lossy_end, faulty_run, PremisesMet, MuchHappens, LawsApplied}
 use Rattle.worked.proofs.Borders.{Within, some_stray, none_stray, none_stray_here, none_stray_there, relay_within, panel_within, chime_within, uncrossed}
 use Rattle.worked.proofs.Runs.{Course, then, done, joined, run_of, always_of, clears_nothing}
 
@@ -220,7 +220,7 @@ premises_met =
           };
       lossy = run_of lossy_course;
       faulty_compared =
-          record { lawful = (chime_is_lawful, faulty_lawful); alike = refl; here = faulty_apart alone; there = longer_apart alone refl; calls = refl };
+          record { lawful = (chime_is_lawful, faulty_lawful); alike = refl; here = faulty_apart panel_only; there = longer_apart panel_only refl; calls = refl };
     }
 
 pub much_happens : MuchHappens
@@ -247,7 +247,7 @@ laws_applied =
     let c = p.compared in
     let d = p.faulty_compared in
     let alike = isolation_stands here p.here_stands group here_run here_end there there_run there_end c in
-    let faulty_alike = isolation_stands faulty p.faulty_stands alone faulty_run faulty (chime ∷ faulty) [] (chime ∷ faulty) d in
+    let faulty_alike = isolation_stands faulty p.faulty_stands panel_only faulty_run faulty (chime ∷ faulty) [] (chime ∷ faulty) d in
     record {
       here_memory = memory_stands here p.here_stands here_run (quiet here_end) c.here.run;
       there_memory = memory_stands there p.there_stands there_run (quiet there_end) c.there.run;

@@ -53,11 +53,11 @@ no_links = replicate 1024 255
 abbrev pub linked_cells : ℕ → List ℕ
 linked_cells panel = put no_links 0x3C (panel ∷ 0x01 ∷ 0xFF ∷ 0xFF ∷ [])
 
--- a house at the start. The panel 0x20 was used before: lamp 3 is on, and button 2 is down
+-- one house at the start. The panel 0x20 was used before: lamp 3 is on, and button 2 is down
 abbrev pub here : List Seat
 here = panel_at 0x30 0 0 ∷ relay_at 0x10 no_links 0 ∷ panel_at 0x20 4 2 ∷ []
 
--- another house at the start, with the same relay 0x10 and the same panel 0x20, but a chime at 0x30
+-- the other house at the start, with the same relay 0x10 and the same panel 0x20, but a chime at 0x30
 abbrev pub there : List Seat
 there = relay_at 0x10 no_links 0 ∷ panel_at 0x40 0 0 ∷ panel_at 0x20 4 2 ∷ relay_at 0x50 no_links 0 ∷ chime ∷ []
 
@@ -65,9 +65,9 @@ there = relay_at 0x10 no_links 0 ∷ panel_at 0x40 0 0 ∷ panel_at 0x20 4 2 ∷
 abbrev pub group : ℕ → Bool
 group a = list_any (λ b. a == b) (0 ∷ 0x10 ∷ 0x20 ∷ 0x77 ∷ 255 ∷ [])
 
--- another group, of one address
-abbrev pub alone : ℕ → Bool
-alone a = a == 0x20
+-- another group: the address of the panel alone
+abbrev pub panel_only : ℕ → Bool
+panel_only a = a == 0x20
 
 -- the write of a link: the first pair of channel 1 in a relay's toggle table bears that address and its button 1
 abbrev pub link_write : ℕ → ℕ → Frame
@@ -110,12 +110,14 @@ ding = stroke 5 0x30
 abbrev pub noted : Call → Answer → List Frame → Entry
 noted c r fs = record { call = c; answer = r; sent = fs }
 
--- below, n is the number of places in the buffer of each call. Frames pass until none is pending, and nothing more is sent
+-- from here on, n is the number of places in the buffer of each call
+
+-- so many frames that are pending pass, and nothing more is sent
 abbrev pub emptying : ℕ → ℕ → List Entry
 emptying n zero = []
 emptying n (suc k) = noted (Step n) (counts 0 k) [] ∷ emptying n k
 
--- the one pending frame passes, and these are sent; then they pass
+-- the one frame that is pending passes, and these are sent; then they pass
 abbrev pub answered_by : ℕ → List Frame → List Entry
 answered_by n fs = noted (Step n) (counts (length fs) (length fs)) fs ∷ emptying n (length fs)
 
@@ -131,7 +133,7 @@ press n panel = noted (Push panel 1 0 n) (counts 1 1) (buttons_told panel 1 0 �
 abbrev pub linking : ℕ → ℕ → ℕ → List Entry
 linking n relay panel = asking n (link_write relay panel) (link_answer relay panel ∷ [])
 
--- the linked button is pressed: the relay hears it and sends three frames, the last to the panel; others send theirs
+-- the linked button is pressed: the relay hears it and sends three frames, the last to the panel; another seat sends others
 abbrev pub toggling : ℕ → ℕ → ℕ → List Frame → List Entry
 toggling n relay panel others =
     press n panel ∷ answered_by n (channel_told relay 1 1 0 ∷ buttons_told relay 1 0 ∷ one_lit panel ∷ others)
@@ -148,7 +150,7 @@ timing n =
     asking n (two_start 0x10) (channel_told 0x10 2 3 1 ∷ buttons_told 0x10 2 0 ∷ [])
     ++ (noted (Second n) (counts 2 2) (channel_told 0x10 2 0 0 ∷ buttons_told 0x10 0 2 ∷ []) ∷ emptying n 2)
 
--- in one house alone: a button that no module links is pressed. Before the frame has passed, a push and a put are refused.
+-- in the one house alone: a button that no module links is pressed. Before the frame has passed, a push and a put are refused.
 -- A byte is read: the panel's lamps. A clear removes nothing
 abbrev pub here_alone : List Entry
 here_alone =
@@ -220,7 +222,7 @@ pub record PremisesMet : Type 0 where
   pub faulty_stands : Stands faulty
   pub compared : Compared group here here_run here_end there there_run there_end
   pub lossy : Run (quiet here) lossy_run lossy_end
-  pub faulty_compared : Compared alone faulty faulty_run faulty (chime ∷ faulty) [] (chime ∷ faulty)
+  pub faulty_compared : Compared panel_only faulty faulty_run faulty (chime ∷ faulty) [] (chime ∷ faulty)
 
 -- what there is to see in the runs. In order: the houses have other sizes, and the runs other lengths; the module at 0x30 has
 -- eight buttons in one house, and one in the other; a link inside the group; two outside it, one of them from the start;
@@ -256,5 +258,5 @@ pub record LawsApplied : Type 0 where
   pub faulty_memory : Throughout faulty (new_ledger faulty) (quiet faulty) faulty_run
   pub same_end : members group here_end ≡ members group there_end
   pub same_frames : frames_of group (all_sent here_run) ≡ frames_of group (all_sent there_run)
-  pub faulty_end : members alone faulty ≡ members alone (chime ∷ faulty)
-  pub faulty_frames : frames_of alone (all_sent faulty_run) ≡ []
+  pub faulty_end : members panel_only faulty ≡ members panel_only (chime ∷ faulty)
+  pub faulty_frames : frames_of panel_only (all_sent faulty_run) ≡ []
