@@ -12,7 +12,7 @@ use Rattle.station.specs.declared.event.Event.{Event}
 use Rattle.station.specs.declared.event.Event.TheVariants.{Heard, Second as ASecond, Pushed}
 use Rattle.station.specs.Kinds.{Seat}
 use Rattle.station.specs.Seats.{places, after_all, sent_all, count_at, first_buttons, first_byte}
-use Rattle.house.specs.Faults.{Checks, first, builder}
+use Rattle.house.specs.Faults.{Checks, first_refusal, builder}
 use Rattle.house.specs.declared.call.Call.{Call}
 use Rattle.house.specs.declared.call.Call.TheVariants.{Put, Push, Second, Step, Clear, Record}
 use Rattle.house.specs.Answers.{Answer, refused, accepted, counts, cleared, byte}
@@ -79,7 +79,7 @@ decided (Some r) ss q c = only (refused (number r)) ss q
 
 -- what comes of a call
 abbrev pub turn : List Seat → List Frame → Call → Turn
-turn ss q c = decided (first (checks ss q c)) ss q c
+turn ss q c = decided (first_refusal (checks ss q c)) ss q c
 
 -- the seats on a bus, and the frames that are pending on it
 pub record Bus : Type 0 where
@@ -91,8 +91,8 @@ abbrev pub called : Call → Bus → Bus
 called c x = record { seats = (turn x.seats x.pending c).seats; pending = (turn x.seats x.pending c).pending }
 
 -- a buffer after frames were written to its front
-abbrev pub written : List Frame → List Frame → List Frame
-written fs buffer = fs ++ drop (length fs) buffer
+abbrev pub copied_in : List Frame → List Frame → List Frame
+copied_in fs buffer = fs ++ drop (length fs) buffer
 
 -- each number is below those after it
 abbrev pub Rises : Checks → Type 0
@@ -106,4 +106,4 @@ NumbersRise = (ss : List Seat) (q : List Frame) (c : Call) → Rises (checks ss 
 -- so of all refusals that apply to a call, the one answered has the smallest number
 abbrev pub SmallestFirst : Type 0
 SmallestFirst =
-    (ss : List Seat) (q : List Frame) (c : Call) (r : Refusal) → first (checks ss q c) ≡ Some r → AllByRecursion (λ d. d.0 ≡ true → number r ≤ number d.1) (checks ss q c)
+    (ss : List Seat) (q : List Frame) (c : Call) (r : Refusal) → first_refusal (checks ss q c) ≡ Some r → AllByRecursion (λ d. d.0 ≡ true → number r ≤ number d.1) (checks ss q c)
