@@ -6,7 +6,7 @@ use Rattle.std.proofs.ByRecursion.{All-weaker}
 use Rattle.std.proofs.lemmas.Bool.{false≢true}
 use Rattle.bus.specs.declared.refusal.Refusal.{Refusal}
 use Rattle.bus.specs.Refusals.{number}
-use Rattle.house.specs.Faults.{Checks, first, OkUnless}
+use Rattle.house.specs.Faults.{Checks, first_refusal, OkUnless}
 use Rattle.house.specs.declared.call.Call.TheVariants.{Put, Push, Second, Step, Clear, Record}
 use Rattle.house.specs.Turns.{checks, Rises, NumbersRise, SmallestFirst}
 
@@ -20,11 +20,11 @@ abbrev Least : Refusal → Checks → Type 0
 Least r cs = AllByRecursion (λ d. d.0 ≡ true → number r ≤ number d.1) cs
 
 -- where the numbers rise, the first that applies is the smallest
-smallest : (cs : Checks) → Rises cs → (r : Refusal) → first cs ≡ Some r → Least r cs
+smallest : (cs : Checks) → Rises cs → (r : Refusal) → first_refusal cs ≡ Some r → Least r cs
 smallest [] h r e = tt
 smallest (c ∷ cs) h r e = by c.0 e (smallest cs h.1 r)
   where
-    by : (b : Bool) → option_map (λ d. d.1) (cond b (Some c) (find (λ d. d.0) cs)) ≡ Some r → (first cs ≡ Some r → Least r cs) → (b ≡ true → number r ≤ number c.1) × Least r cs
+    by : (b : Bool) → option_map (λ d. d.1) (cond b (Some c) (find (λ d. d.0) cs)) ≡ Some r → (first_refusal cs ≡ Some r → Least r cs) → (b ≡ true → number r ≤ number c.1) × Least r cs
     by true p rest =
         let same : c.1 ≡ r = cc in
         let level = ap number same in

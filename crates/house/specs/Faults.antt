@@ -13,8 +13,8 @@ abbrev pub Checks : Type 0
 Checks = List (Bool × Refusal)
 
 -- the first that applies
-abbrev pub first : Checks → Option Refusal
-first cs = option_map (λ c. c.1) (find (λ c. c.0) cs)
+abbrev pub first_refusal : Checks → Option Refusal
+first_refusal cs = option_map (λ c. c.1) (find (λ c. c.0) cs)
 
 -- r is the value, unless something refuses it: then r is that refusal
 abbrev pub OkUnless : {A : Type 0} → Result A Refusal → Option Refusal → A → Type 0
@@ -35,8 +35,8 @@ builder ss = (bad_address ss, SeatAddress) ∷ (address_twice ss, AddressTwice) 
 
 -- the fault that the builder is told of
 abbrev pub fault_of : List Seat → Option Refusal
-fault_of ss = first (builder ss)
+fault_of ss = first_refusal (builder ss)
 
 -- the same, from the list of the addresses
 abbrev pub faulted : Addresses → Option Refusal
-faulted r = first ((r.outside, SeatAddress) ∷ (r.twice, AddressTwice) ∷ (nat_lt 16 r.count, TooManySeats) ∷ [])
+faulted r = first_refusal ((r.outside, SeatAddress) ∷ (r.twice, AddressTwice) ∷ (nat_lt 16 r.count, TooManySeats) ∷ [])

@@ -7,7 +7,7 @@ use Rattle.bus.specs.Refusals.{number}
 use Rattle.station.specs.Kinds.{Seat}
 use Rattle.station.specs.Seats.{count_at}
 use Rattle.groups.specs.Links.{ListsGroup}
-use Rattle.house.specs.Faults.{Checks, first, builder}
+use Rattle.house.specs.Faults.{Checks, first_refusal, builder}
 use Rattle.house.specs.Turns.{Rises}
 
 -- what refuses it, in order: a buffer has a place for each address that a module can have
@@ -16,7 +16,7 @@ group_checks ss a places = builder ss ++ (nat_lt places 254, ShortBuffer) ∷ (c
 
 -- the refusal, if there is one
 abbrev pub group_refusal : List Seat → ℕ → ℕ → Option Refusal
-group_refusal ss a places = first (group_checks ss a places)
+group_refusal ss a places = first_refusal (group_checks ss a places)
 
 -- the group is listed and its size answered, unless something refuses it: then that is answered, and the buffer is as it
 -- was

@@ -8,8 +8,8 @@ use Rattle.station.specs.declared.station.Station.{Ghosts}
 use Rattle.house.specs.declared.house.House.{House}
 use Rattle.house.specs.declared.call.Call.{Call}
 use Rattle.house.specs.Answers.{Answer}
-use Rattle.house.specs.Faults.{first}
-use Rattle.house.specs.Turns.{Bus, checks, Turn, turn, written}
+use Rattle.house.specs.Faults.{first_refusal}
+use Rattle.house.specs.Turns.{Bus, checks, Turn, turn, copied_in}
 
 module _ {S : Type 0} {G : Ghosts S} where
   -- the station
@@ -29,11 +29,11 @@ module _ {S : Type 0} {G : Ghosts S} where
 
   -- what refuses a call, if anything does
   abbrev pub refusal_of : (S → List Seat) → House S G → Call → Option Refusal
-  refusal_of seats h c = first (checks (seats (station_of h)) (pending_of h) c)
+  refusal_of seats h c = first_refusal (checks (seats (station_of h)) (pending_of h) c)
 
   -- a turn was taken: this is the answer and this the house after it, and the frames sent were written to the buffer
   pub record TakesTurn (seats_of : S → List Seat) (t : Turn) (r : Answer) (after : House S G) (old new : List Frame) : Type 0 where
     pub answer : r ≡ t.answer
     pub seats : seats_of (station_of after) ≡ t.seats
     pub pending : pending_of after ≡ t.pending
-    pub buffer : new ≡ written t.sent old
+    pub buffer : new ≡ copied_in t.sent old

@@ -1,25 +1,27 @@
 -- What each call of a house answers and leads to, from its seats and its pending frames. Assumes nothing.
-use Rattle.std.specs.Prelude.{◌≡◌, ℕ, ◌+◌, ◌-◌, ◌<◌, ◌≤◌, Bool, true, cond, not, ◌||◌, List, [], ◌∷◌, ◌++◌, length, drop, Some, None, Option, ◌==◌, nat_lt}
+use Rattle.std.specs.Prelude.{◌≡◌, ℕ, ◌+◌, ◌-◌, ◌<◌, ◌≤◌, Bool, true, not, ◌||◌, List, [], ◌∷◌, ◌++◌, length, drop, Some, None, Option, ◌==◌, nat_lt}
 use Rattle.std.specs.List.{AllByRecursion}
+use Rattle.std.specs.Result.{is_err, result_unwrap_or}
 use Rattle.bus.specs.declared.frame.Frame.{Frame}
 use Rattle.bus.specs.declared.refusal.Refusal.{Refusal}
 use Rattle.bus.specs.declared.refusal.Refusal.TheVariants.{ShortBuffer, IllFormedFrame, NoSuchSeat, NoSuchButton, NotQuiet, NothingPending, NoRoom}
 use Rattle.bus.specs.Frames.{well_formed}
 use Rattle.bus.specs.Refusals.{number}
 use Rattle.station.specs.declared.edge.Edge.{Edge}
-use Rattle.station.specs.declared.edge.Edge.TheVariants.{Press, Release, LongPress}
+use Rattle.station.specs.declared.edge.Edge.TheVariants.{Press}
 use Rattle.station.specs.declared.event.Event.{Event}
 use Rattle.station.specs.declared.event.Event.TheVariants.{Heard, Second as ASecond, Pushed}
+use Rattle.station.specs.Edges.{numbered_edge}
 use Rattle.station.specs.Kinds.{Seat}
 use Rattle.station.specs.Seats.{places, after_all, sent_all, count_at, first_buttons, first_byte}
-use Rattle.house.specs.Faults.{Checks, first, builder}
+use Rattle.house.specs.Faults.{Checks, first_refusal, builder}
 use Rattle.house.specs.declared.call.Call.{Call}
 use Rattle.house.specs.declared.call.Call.TheVariants.{Put, Push, Second, Step, Clear, Record}
 use Rattle.house.specs.Answers.{Answer, refused, accepted, counts, cleared, byte}
 
--- the edge of a number: 0 press, 1 release, 2 long press
+-- the edge of a number; a push at a number that has none was refused before
 abbrev pub edge_of : ℕ → Edge
-edge_of n = cond (n == 0) Press (cond (n == 1) Release LongPress)
+edge_of n = result_unwrap_or (numbered_edge n) Press
 
 -- what refuses to let the seats act: the builder's faults, then a buffer too short for what they may send
 abbrev pub acting : List Seat → ℕ → Checks
@@ -29,9 +31,9 @@ acting ss n = builder ss ++ (nat_lt n (places ss), ShortBuffer) ∷ []
 abbrev pub busy : List Frame → Bool × Refusal
 busy q = (nat_lt 0 (length q), NotQuiet)
 
--- no such button or edge: the channel is not 1 to the seat's buttons, or the edge is above 2
+-- no such button or edge: the channel is not 1 to the seat's buttons, or the number has no edge
 abbrev pub no_button : List Seat → ℕ → ℕ → ℕ → Bool × Refusal
-no_button ss address channel edge = ((channel == 0 || nat_lt (first_buttons address ss) channel) || nat_lt 2 edge, NoSuchButton)
+no_button ss address channel edge = ((channel == 0 || nat_lt (first_buttons address ss) channel) || is_err (numbered_edge edge), NoSuchButton)
 
 -- what refuses a call, in order
 abbrev pub checks : List Seat → List Frame → Call → Checks
@@ -79,7 +81,7 @@ decided (Some r) ss q c = only (refused (number r)) ss q
 
 -- what comes of a call
 abbrev pub turn : List Seat → List Frame → Call → Turn
-turn ss q c = decided (first (checks ss q c)) ss q c
+turn ss q c = decided (first_refusal (checks ss q c)) ss q c
 
 -- the seats on a bus, and the frames that are pending on it
 pub record Bus : Type 0 where
@@ -91,8 +93,8 @@ abbrev pub called : Call → Bus → Bus
 called c x = record { seats = (turn x.seats x.pending c).seats; pending = (turn x.seats x.pending c).pending }
 
 -- a buffer after frames were written to its front
-abbrev pub written : List Frame → List Frame → List Frame
-written fs buffer = fs ++ drop (length fs) buffer
+abbrev pub copied_in : List Frame → List Frame → List Frame
+copied_in fs buffer = fs ++ drop (length fs) buffer
 
 -- each number is below those after it
 abbrev pub Rises : Checks → Type 0
@@ -106,4 +108,4 @@ NumbersRise = (ss : List Seat) (q : List Frame) (c : Call) → Rises (checks ss 
 -- so of all refusals that apply to a call, the one answered has the smallest number
 abbrev pub SmallestFirst : Type 0
 SmallestFirst =
-    (ss : List Seat) (q : List Frame) (c : Call) (r : Refusal) → first (checks ss q c) ≡ Some r → AllByRecursion (λ d. d.0 ≡ true → number r ≤ number d.1) (checks ss q c)
+    (ss : List Seat) (q : List Frame) (c : Call) (r : Refusal) → first_refusal (checks ss q c) ≡ Some r → AllByRecursion (λ d. d.0 ≡ true → number r ≤ number d.1) (checks ss q c)

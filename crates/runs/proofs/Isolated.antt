@@ -14,7 +14,7 @@ use Rattle.station.specs.Seats.{after_all, sent_all}
 use Rattle.house.specs.declared.call.Call.{Call}
 use Rattle.house.specs.declared.call.Call.TheVariants.{Put, Push, Second, Step, Clear, Record}
 use Rattle.house.specs.Answers.{cleared}
-use Rattle.house.specs.Faults.{Checks, first, bad_address}
+use Rattle.house.specs.Faults.{Checks, first_refusal, bad_address}
 use Rattle.house.specs.Turns.{Turn, Bus, acted, served, decided, checks, turn, called}
 use Rattle.runs.specs.Runs.{Entry, Run, entry, quiet, is_served}
 use Rattle.groups.specs.Links.{Uncrossed}
@@ -31,7 +31,7 @@ abbrev noted : (ℕ → Bool) → Call → Turn → List Call → List Call
 noted g c t cs = cond (is_served t.answer && concerns g c) (without_buffer c ∷ cs) cs
 
 -- where no check is the first that applies, none does
-none_applies : (cs : Checks) → first cs ≡ None → AllByRecursion (λ c. c.0 ≡ false) cs
+none_applies : (cs : Checks) → first_refusal cs ≡ None → AllByRecursion (λ c. c.0 ≡ false) cs
 none_applies [] e = tt
 none_applies (c ∷ cs) e =
     elim (cases_Bool c.0) [
@@ -96,9 +96,9 @@ module _ (g : ℕ → Bool) (ss : List Seat) (lawful : AllByRecursion Lawful ss)
 
   -- and a refused call is no move
   call_follows : (c : Call) (q : List Frame) → CallFollows c q (turn ss q c)
-  call_follows c q = by (first (checks ss q c)) refl
+  call_follows c q = by (first_refusal (checks ss q c)) refl
     where
-      by : (o : Option Refusal) → first (checks ss q c) ≡ o → CallFollows c q (decided o ss q c)
+      by : (o : Option Refusal) → first_refusal (checks ss q c) ≡ o → CallFollows c q (decided o ss q c)
       by (Some r) e = λ k. inr refl
       by None e = served_follows c q (none_applies (checks ss q c) e)
 
@@ -109,7 +109,7 @@ lawful_after e (s ∷ ss) l = (λ es. l.0 (e ∷ es), lawful_after e ss l.1)
 
 -- after every call too
 lawful_turn : (c : Call) (ss : List Seat) (q : List Frame) → AllByRecursion Lawful ss → AllByRecursion Lawful (turn ss q c).seats
-lawful_turn c ss q l = by (first (checks ss q c)) c q
+lawful_turn c ss q l = by (first_refusal (checks ss q c)) c q
   where
     by : (o : Option Refusal) (c : Call) (q : List Frame) → AllByRecursion Lawful (decided o ss q c).seats
     by (Some r) c q = l

@@ -6,8 +6,8 @@ use Rattle.bus.specs.declared.refusal.Refusal.{Refusal}
 use Rattle.station.specs.Kinds.{Seat}
 use Rattle.house.specs.declared.call.Call.{Call}
 use Rattle.house.specs.declared.call.Call.TheVariants.{Put, Push, Second, Step, Clear, Record}
-use Rattle.house.specs.Faults.{first}
-use Rattle.house.specs.Turns.{Bus, called, checks, decided, turn, written}
+use Rattle.house.specs.Faults.{first_refusal}
+use Rattle.house.specs.Turns.{Bus, called, checks, decided, turn, copied_in}
 use Rattle.runs.specs.Runs.{Entry, Run, entry, quiet}
 use Rattle.house.specs.Houses.{bus_of}
 use Rattle.station.specs.declared.station.Station.{Ghosts}
@@ -27,17 +27,17 @@ served_counted ss q (Record a n) = refl
 
 -- the number that an answer tells is that of the frames sent
 pub sent_counted : (ss : List Seat) (q : List Frame) (c : Call) → sent_number (turn ss q c).answer ≡ length (turn ss q c).sent
-sent_counted ss q c = by (first (checks ss q c))
+sent_counted ss q c = by (first_refusal (checks ss q c))
   where
     by : (o : Option Refusal) → sent_number (decided o ss q c).answer ≡ length (decided o ss q c).sent
     by None = served_counted ss q c
     by (Some r) = refl
 
 -- of a buffer to whose front they were written, so many frames are those sent
-pub sent_kept : (ss : List Seat) (q : List Frame) (c : Call) (old : List Frame) → take (sent_number (turn ss q c).answer) (written (turn ss q c).sent old) ≡ (turn ss q c).sent
+pub sent_kept : (ss : List Seat) (q : List Frame) (c : Call) (old : List Frame) → take (sent_number (turn ss q c).answer) (copied_in (turn ss q c).sent old) ≡ (turn ss q c).sent
 sent_kept ss q c old =
     let fs = (turn ss q c).sent in
-    ap (λ n. take n (written fs old)) (sent_counted ss q c) ∙ take-append_seam fs (drop (length fs) old)
+    ap (λ n. take n (copied_in fs old)) (sent_counted ss q c) ∙ take-append_seam fs (drop (length fs) old)
 
 -- a run with one call more
 pub run_more : (x : Bus) (es : List Entry) (y : Bus) (c : Call) → Run x es y → Run x (es ++ entry y c ∷ []) (called c y)

@@ -10,7 +10,7 @@ use Rattle.station.specs.Rules.{Lawful, written, cells_after}
 use Rattle.station.specs.Seats.{after_all, sent_all}
 use Rattle.house.specs.declared.call.Call.{Call}
 use Rattle.house.specs.declared.call.Call.TheVariants.{Put, Push, Second, Step, Clear, Record}
-use Rattle.house.specs.Faults.{first}
+use Rattle.house.specs.Faults.{first_refusal}
 use Rattle.house.specs.Turns.{Bus, Turn, called, checks, decided, turn, edge_of}
 use Rattle.runs.specs.Runs.{Entry, Run, quiet}
 use Rattle.runs.specs.Ledgers.{Ledger, Memory, memory_of, told}
@@ -126,7 +126,7 @@ served_follows start fs ss q h Clear = record { passed = fs; ledger = refl; keep
 served_follows start fs ss q h (Record a n) = record { passed = fs; ledger = refl; keeps = λ k. k; numbers = tt; lawful = h }
 
 follows : (start : List Seat) (fs : List Frame) (x : Bus) → AllByRecursion Lawful x.seats → (c : Call) → Follows start fs x c (turn x.seats x.pending c)
-follows start fs x h c = by (first (checks x.seats x.pending c))
+follows start fs x h c = by (first_refusal (checks x.seats x.pending c))
   where
     by : (o : Option Refusal) → Follows start fs x c (decided o x.seats x.pending c)
     by None = served_follows start fs x.seats x.pending h c

@@ -3,7 +3,7 @@ ghost use Rattle.std.specs.Prelude.{◌≡◌, ◌+◌, ◌≤◌, ◌++◌, len
 ghost use Rattle.std.specs.VecDeque.{deque_len, deque_capacity};
 ghost use Rattle.station.specs.Seats.{places};
 ghost use Rattle.house.specs.Answers.{counts};
-ghost use Rattle.house.specs.Turns.{acted, written};
+ghost use Rattle.house.specs.Turns.{acted, copied_in};
 ghost use Rattle.house.specs.Houses.{station_of, pending_of, TakesTurn};
 
 use super::House;
@@ -32,7 +32,7 @@ impl<S: Station> House<S> {
 fn append(frames: &[Frame], buffer: &mut [Frame], pending: &mut VecDeque<Frame>)
     requires buffer { length frames.now ≤ length buffer.old }
     requires pending { deque_len pending.old + length frames.now ≤ deque_capacity pending.old }
-    ensures buffer { buffer.new ≡ written frames.now buffer.old }
+    ensures buffer { buffer.new ≡ copied_in frames.now buffer.old }
     ensures pending { pending.new.items ≡ pending.old.items ++ frames.now }
     ensures capacity { deque_capacity pending.new ≡ deque_capacity pending.old }
 {

@@ -1,7 +1,7 @@
 // What refuses each call, in order.
 ghost use Rattle.std.specs.Prelude.{[], ◌∷◌, length};
 ghost use Rattle.house.specs.declared.call.Call.TheVariants.{Put, Push as PushCall, Second, Step};
-ghost use Rattle.house.specs.Faults.{first, OkUnless};
+ghost use Rattle.house.specs.Faults.{first_refusal, OkUnless};
 ghost use Rattle.house.specs.Turns.{acting, busy, edge_of, NumbersRise, SmallestFirst};
 ghost use Rattle.house.specs.Houses.{station_of, pending_of, refusal_of};
 
@@ -72,7 +72,7 @@ impl<S: Station> House<S> {
 
     // The number of seats, if they may act with that many places.
     fn seats_to_act(&self, places: usize) -> Result<usize, Refusal>
-        ensures { OkUnless result (first (acting (S.seats (station_of self.now)) places)) (length (S.seats (station_of self.now))) }
+        ensures { OkUnless result (first_refusal (acting (S.seats (station_of self.now)) places)) (length (S.seats (station_of self.now))) }
     {
         let seats = self.built.seats?;
         if places < 9 * seats {
@@ -83,7 +83,7 @@ impl<S: Station> House<S> {
 
     // Some calls need a quiet house.
     fn check_quiet(&self) -> Result<(), Refusal>
-        ensures { OkUnless result (first (busy (pending_of self.now) ∷ [])) tt }
+        ensures { OkUnless result (first_refusal (busy (pending_of self.now) ∷ [])) tt }
     {
         if self.pending() > 0 {
             return Err(Refusal::NotQuiet);
