@@ -1,8 +1,8 @@
 -- Worked runs: two houses that have a relay and a panel in common and differ in all else. Assumes nothing.
-use Rattle.std.specs.Prelude.{◌≡◌, ℕ, zero, suc, Bool, true, not, List, [], ◌∷◌, ◌++◌, length, replicate, Some, ◌==◌}
+use Rattle.std.specs.Prelude.{◌≡◌, ℕ, zero, suc, Bool, true, false, not, List, [], ◌∷◌, ◌++◌, map, filter, length, replicate, Some, ◌==◌}
 use Rattle.std.specs.List.{list_any}
 use Rattle.bus.specs.declared.frame.Frame.{Frame}
-use Rattle.bus.specs.Frames.{message}
+use Rattle.bus.specs.Frames.{message, well_formed}
 use Rattle.station.specs.Kinds.{Seat}
 use Rattle.station.specs.Rules.{put, Stands}
 use Rattle.station.specs.Seats.{first_buttons, first_byte}
@@ -16,7 +16,7 @@ use Rattle.house.specs.declared.call.Call.TheVariants.{Put, Push, Second, Step, 
 use Rattle.house.specs.Answers.{Answer, refused, accepted, counts, cleared, byte}
 use Rattle.house.specs.Turns.{Bus}
 use Rattle.groups.specs.Links.{link}
-use Rattle.runs.specs.Runs.{Entry, Run, quiet}
+use Rattle.runs.specs.Runs.{Entry, Run, quiet, is_served}
 use Rattle.runs.specs.Ledgers.{new_ledger}
 use Rattle.runs.specs.Memory.{Throughout}
 use Rattle.runs.specs.Isolation.{Compared, members, frames_of, concerning, all_sent}
@@ -214,6 +214,10 @@ faulty = panel_at 0x20 4 2 ∷ panel_at 0x20 0 0 ∷ []
 abbrev pub faulty_run : List Entry
 faulty_run = noted (Put time_of_day) (refused 2) [] ∷ noted (Record 0x20 256) (byte (Some 4)) [] ∷ []
 
+-- the calls of a run that were refused
+abbrev pub refused_calls : List Entry → List Call
+refused_calls es = map (λ e. e.call) (filter (λ e. not (is_served e.answer)) es)
+
 -- what the laws ask for: the seats are those of a station, and the law of isolation can compare the first two runs. For it
 -- the faulty house is compared with the same one with a chime in front, where nothing was called
 pub record PremisesMet : Type 0 where
@@ -225,17 +229,20 @@ pub record PremisesMet : Type 0 where
   pub faulty_compared : Compared panel_only faulty faulty_run faulty (chime ∷ faulty) [] (chime ∷ faulty)
 
 -- what there is to see in the runs. In order: the houses have other sizes, and the runs other lengths; the module at 0x30 has
--- eight buttons in one house, and one in the other; a link inside the group; two outside it, one of them from the start;
--- the calls that concern the group; the cell of the link at the start, at the end, and at the end of the third run; the
--- frames of the group; all other frames in each house
+-- eight buttons in one house, and one in the other, whose stroke is not well formed; a link inside the group; two outside
+-- it, one of them from the start; the calls that concern the group; the refused calls in each house; the cell of the link
+-- at the start, at the end, and at the end of the third run; the frames of the group; all other frames in each house
 pub record MuchHappens : Type 0 where
   pub houses : (length here ≡ 3) × (length there ≡ 5)
   pub runs : (length here_run ≡ 27) × (length there_run ≡ 37)
   pub buttons : (first_buttons 0x30 here ≡ 8) × (first_buttons 0x30 there ≡ 1)
+  pub strokes : well_formed ding ≡ false
   pub inner_link : link here_end 0x10 0x20 ≡ true
   pub other_links : (link there_end 0x50 0x40 ≡ true) × (link there 0x30 0x40 ≡ true)
   pub calls :
       concerning group here_run ≡ Put (link_write 0x10 0x20) ∷ Push 0x20 1 0 0 ∷ Put time_of_day ∷ Put (type_request 0x77) ∷ Push 0x20 2 1 0 ∷ Put (two_start 0x10) ∷ Second 0 ∷ []
+  pub here_refused : refused_calls here_run ≡ Push 0x20 1 0 144 ∷ Put (link_write 0x10 0x40) ∷ []
+  pub there_refused : refused_calls there_run ≡ Step 200 ∷ Second 44 ∷ []
   pub first_cell : first_byte 0x10 0x3C here ≡ Some 0xFF
   pub last_cell : (first_byte 0x10 0x3C here_end ≡ Some 0x20) × (first_byte 0x10 0x3C lossy_end.seats ≡ Some 0x20)
   pub frames :
