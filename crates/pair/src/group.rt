@@ -1,5 +1,4 @@
-// The group that both houses share, and what concerns it: the same acts in both, in the same order. Only of the last
-// second the steps differ, since they are for the frames of all modules.
+// The group that both houses share, and what concerns it: the same acts in both houses, in the same order.
 use crate::act::{Act, SECOND, command, push};
 use station::Edge;
 
@@ -12,7 +11,7 @@ pub const GROUP: [u8; 2] = [RELAY, PANEL];
 // The write is confirmed.
 pub fn link() -> Act {
     Act {
-        text: "The group: button 1 of panel 20 goes into the toggle table of channel 1 of relay 10.",
+        text: "In the group: button 1 of panel 20 goes into the toggle table of channel 1 of relay 10.",
         call: command(RELAY, 7, [0xCA, 0x00, 0x3C, PANEL, 0x01, 0xFF, 0xFF, 0]),
         steps: 2,
     }
@@ -20,7 +19,7 @@ pub fn link() -> Act {
 
 pub fn link_timer() -> Act {
     Act {
-        text: "The group: button 2 of panel 20 is to start timer 1 of channel 2, which is set to 2 seconds.",
+        text: "In the group: button 2 of panel 20 goes into the table that starts timer 1 of channel 2, 2 seconds.",
         call: command(RELAY, 7, [0xCA, 0x01, 0xB4, PANEL, 0x02, 0xFF, 0xFF, 0]),
         steps: 2,
     }
@@ -29,7 +28,7 @@ pub fn link_timer() -> Act {
 // The press is sent; the relay answers with a report, a status of its own and a lamp command.
 pub fn press_1() -> Act {
     Act {
-        text: "The group: button 1 of panel 20 is pressed.",
+        text: "In the group: button 1 of panel 20 is pressed.",
         call: push(PANEL, 1, Edge::Press),
         steps: 4,
     }
@@ -37,7 +36,7 @@ pub fn press_1() -> Act {
 
 pub fn release_1() -> Act {
     Act {
-        text: "The group: button 1 of panel 20 is released.",
+        text: "In the group: button 1 of panel 20 is released.",
         call: push(PANEL, 1, Edge::Release),
         steps: 1,
     }
@@ -45,7 +44,7 @@ pub fn release_1() -> Act {
 
 pub fn press_2() -> Act {
     Act {
-        text: "The group: button 2 of panel 20 is pressed.",
+        text: "In the group: button 2 of panel 20 is pressed.",
         call: push(PANEL, 2, Edge::Press),
         steps: 4,
     }
@@ -53,25 +52,16 @@ pub fn press_2() -> Act {
 
 pub fn release_2() -> Act {
     Act {
-        text: "The group: button 2 of panel 20 is released.",
+        text: "In the group: button 2 of panel 20 is released.",
         call: push(PANEL, 2, Edge::Release),
         steps: 1,
     }
 }
 
-// Nothing is over yet, in either house.
-pub fn first_second() -> Act {
+// The steps are for what all modules send.
+pub fn second(steps: usize) -> Act {
     Act {
-        text: "Every group: a second passes.",
-        call: SECOND,
-        steps: 0,
-    }
-}
-
-// The timer of the group is over, which takes two frames.
-pub fn last_second(steps: usize) -> Act {
-    Act {
-        text: "Every group: a second passes.",
+        text: "A second passes, which concerns every group.",
         call: SECOND,
         steps,
     }

@@ -1,8 +1,7 @@
 // The first house: relay 10 under a sieve, panel 20, and a button interface at 30.
 use crate::act::{Act, command, push};
 use crate::group::{
-    PANEL, RELAY, first_second, last_second, link, link_timer, press_1, press_2, release_1,
-    release_2,
+    PANEL, RELAY, link, link_timer, press_1, press_2, release_1, release_2, second,
 };
 use crate::setups::{INTERFACE_SETUP, PANEL_SETUP, RELAY_SETUP};
 use buttons::ButtonInterface;
@@ -35,55 +34,43 @@ pub fn modules() -> Modules {
     }
 }
 
+const PRESS_LOCKED: &str =
+    "Outside the group: button 1 of interface 30 is pressed; its channel is locked.";
+
+const PRESS_FREE: &str =
+    "Outside the group: button 1 of interface 30 is pressed; its channel is free again.";
+
+const RELEASE_FREE: &str = "Outside the group: button 1 of interface 30 is released.";
+
+const PRESS: &str = "Outside the group: button 2 of interface 30 is pressed.";
+
+const RELEASE: &str = "Outside the group: button 2 of interface 30 is released.";
+
+// The lock is over with the second second.
 pub fn acts() -> [Act; 15] {
     [
         link(),
         lock(),
-        push_interface(
-            "Besides: button 1 of interface 30 is pressed. Its channel is locked.",
-            1,
-            Edge::Press,
-            0,
-        ),
+        push_interface(PRESS_LOCKED, 1, Edge::Press, 0),
         link_timer(),
         press_1(),
-        push_interface(
-            "Besides: button 2 of interface 30 is pressed.",
-            2,
-            Edge::Press,
-            1,
-        ),
-        push_interface(
-            "Besides: button 2 of interface 30 is released.",
-            2,
-            Edge::Release,
-            1,
-        ),
+        push_interface(PRESS, 2, Edge::Press, 1),
+        push_interface(RELEASE, 2, Edge::Release, 1),
         release_1(),
         press_2(),
         release_2(),
         nobody(),
-        first_second(),
-        last_second(2),
-        push_interface(
-            "Besides: button 1 of interface 30 is pressed. Its channel is free again.",
-            1,
-            Edge::Press,
-            1,
-        ),
-        push_interface(
-            "Besides: button 1 of interface 30 is released.",
-            1,
-            Edge::Release,
-            1,
-        ),
+        second(0),
+        second(2),
+        push_interface(PRESS_FREE, 1, Edge::Press, 1),
+        push_interface(RELEASE_FREE, 1, Edge::Release, 1),
     ]
 }
 
-// Two seconds.
+// Nothing confirms it.
 fn lock() -> Act {
     Act {
-        text: "Besides: channel 1 of interface 30 is locked for 2 seconds.",
+        text: "Outside the group: channel 1 of interface 30 is locked for 2 seconds.",
         call: command(INTERFACE, 5, [0x12, 0x01, 0, 0, 2, 0, 0, 0]),
         steps: 1,
     }
@@ -99,7 +86,7 @@ fn push_interface(text: &'static str, button: u8, edge: Edge, steps: usize) -> A
 
 fn nobody() -> Act {
     Act {
-        text: "Besides: a button is pressed at 31, where no module is.",
+        text: "Outside the group: a button is pressed at 31, where no module is.",
         call: push(0x31, 1, Edge::Press),
         steps: 0,
     }

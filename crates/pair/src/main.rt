@@ -37,8 +37,8 @@ fn run(rt: &HostRuntime) -> anyhow::Result<()> {
     let kinds = BTreeMap::from_array(rt.alloc(), there::KINDS)?;
     let mut shown_there = Shown::new(rt.alloc(), kinds);
     let there = play(rt, there::modules(), &mut shown_there, &there::acts())?;
-    let sent_here = show_group(rt, "here", &here, &shown_here)?;
-    let sent_there = show_group(rt, "there", &there, &shown_there)?;
+    let sent_here = show_group(rt, "Here", &here, &shown_here)?;
+    let sent_there = show_group(rt, "There", &there, &shown_there)?;
     let records = same_records(&here.house, &there.house, &GROUP);
     let frames = same_frames(sent_here.as_slice(), sent_there.as_slice());
     sum_up(rt, records, frames, sent_here.len())
@@ -75,10 +75,10 @@ fn show_group<S: Station>(
     shown: &Shown,
 ) -> anyhow::Result<Vec<Frame>> {
     let pending = done.house.pending();
-    println!(rt; "The group's records {place}; {pending} frames are pending.")?;
+    println!(rt; "{place}, {pending} frames are pending at the end. The group's records:")?;
     show_record(rt, &done.house, RELAY, ModuleType::Relay)?;
     show_record(rt, &done.house, PANEL, ModuleType::Panel)?;
-    println!(rt; "The group's frames {place}.")?;
+    println!(rt; "The group's frames:")?;
     let sent = all_sent(rt.alloc(), done.entries.as_slice())?;
     let frames = frames_of(rt.alloc(), &GROUP, sent.as_slice())?;
     for frame in &frames {

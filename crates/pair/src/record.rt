@@ -19,14 +19,18 @@ pub fn show_record<S: Station>(
     module: ModuleType,
 ) -> anyhow::Result<()> {
     let cells = cells(module);
-    print!(rt; "{module} {address:02X}: cells")?;
+    print!(rt; "{module} {address:02X}: all cells FF")?;
+    let mut joint = " but";
     for place in 0..cells {
         match house.record(address, place) {
             Some(0xFF) | None => {}
-            Some(byte) => print!(rt; " {place:04X}={byte:02X}")?,
+            Some(byte) => {
+                print!(rt; "{joint} {place:04X}={byte:02X}")?;
+                joint = "";
+            }
         }
     }
-    print!(rt; ", all others FF; state bytes")?;
+    print!(rt; "; state bytes")?;
     for place in cells..usize::MAX {
         let Some(byte) = house.record(address, place) else {
             break;

@@ -1,8 +1,7 @@
 // The second house: relays 50 and 10 under one sieve, and panels 40 and 20.
 use crate::act::{Act, SECOND, command, push};
 use crate::group::{
-    PANEL, RELAY, first_second, last_second, link, link_timer, press_1, press_2, release_1,
-    release_2,
+    PANEL, RELAY, link, link_timer, press_1, press_2, release_1, release_2, second,
 };
 use crate::setups::{PANEL_SETUP, RELAY_SETUP};
 use kinds::{new_panel, new_relay};
@@ -40,6 +39,7 @@ pub fn modules() -> Modules {
     }
 }
 
+// With the last second two times are over, one in the group and one outside it.
 pub fn acts() -> [Act; 13] {
     [
         link_others(),
@@ -53,14 +53,14 @@ pub fn acts() -> [Act; 13] {
         press_2(),
         run_other(),
         release_2(),
-        first_second(),
-        last_second(4),
+        second(0),
+        second(4),
     ]
 }
 
 fn link_others() -> Act {
     Act {
-        text: "Besides: button 1 of panel 40 goes into the toggle table of channel 1 of relay 50.",
+        text: "Outside the group: button 1 of panel 40 goes into the toggle table of channel 1 of relay 50.",
         call: command(
             OTHER_RELAY,
             7,
@@ -72,7 +72,7 @@ fn link_others() -> Act {
 
 fn press_other() -> Act {
     Act {
-        text: "Besides: button 1 of panel 40 is pressed.",
+        text: "Outside the group: button 1 of panel 40 is pressed.",
         call: push(OTHER_PANEL, 1, Edge::Press),
         steps: 0,
     }
@@ -81,7 +81,7 @@ fn press_other() -> Act {
 // It is refused, and the frames of the press pass after it.
 fn too_soon() -> Act {
     Act {
-        text: "A second is asked for too soon; it does not count.",
+        text: "A second is asked for too soon: it is refused, and does not count.",
         call: SECOND,
         steps: 4,
     }
@@ -89,7 +89,7 @@ fn too_soon() -> Act {
 
 fn release_other() -> Act {
     Act {
-        text: "Besides: button 1 of panel 40 is released.",
+        text: "Outside the group: button 1 of panel 40 is released.",
         call: push(OTHER_PANEL, 1, Edge::Release),
         steps: 1,
     }
@@ -98,7 +98,7 @@ fn release_other() -> Act {
 // The contact is closed already, so nothing is reported before the time is over.
 fn run_other() -> Act {
     Act {
-        text: "Besides: channel 1 of relay 50 is to run for 2 seconds.",
+        text: "Outside the group: channel 1 of relay 50 is to run for 2 seconds.",
         call: command(OTHER_RELAY, 5, [0x03, 0x01, 0, 0, 2, 0, 0, 0]),
         steps: 1,
     }

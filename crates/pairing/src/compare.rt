@@ -2,7 +2,8 @@
 ghost use Rattle.std.specs.Prelude.{◌≡◌, ◌↔◌, IsTrue};
 ghost use Rattle.station.specs.Seats.{first_byte};
 ghost use Rattle.house.specs.Houses.{station_of};
-ghost use Rattle.pairing.specs.Groups.{SameRecord, SameRecords};
+ghost use Rattle.runs.specs.Isolation.{seats_of};
+ghost use Rattle.pairing.specs.Groups.{within, SameRecord, SameRecords};
 
 use bus::Frame;
 use house::House;
@@ -33,13 +34,23 @@ pub fn same_record<S: Station, T: Station>(here: &House<S>, there: &House<T>, ad
     true
 }
 
-// Whether that is so at every address of a group.
-pub fn same_records<S: Station, T: Station>(here: &House<S>, there: &House<T>, group: &[u8]) -> bool
-    ensures { IsTrue result ↔ SameRecords (S.seats (station_of here.now)) (T.seats (station_of there.now)) group.now }
+// Whether that is so at every address.
+fn same_at<S: Station, T: Station>(here: &House<S>, there: &House<T>, addresses: &[u8]) -> bool
+    ensures { IsTrue result ↔ SameRecords (S.seats (station_of here.now)) (T.seats (station_of there.now)) addresses.now }
 {
-    group
+    addresses
         .iter()
         .all(|address| same_record(here, there, *address))
+}
+
+// Whether that is so at every address of a group. It is where the seats of the group are the same, as the law of
+// isolation promises.
+#[tactic(auto, using(crate::proofs::Grouped::same_seats))]
+pub fn same_records<S: Station, T: Station>(here: &House<S>, there: &House<T>, group: &[u8]) -> bool
+    ensures bytes { IsTrue result ↔ SameRecords (S.seats (station_of here.now)) (T.seats (station_of there.now)) group.now }
+    ensures seats { seats_of (within group.now) (S.seats (station_of here.now)) ≡ seats_of (within group.now) (T.seats (station_of there.now)) → IsTrue result }
+{
+    same_at(here, there, group)
 }
 
 // Whether the frames are the same, in the same order.
