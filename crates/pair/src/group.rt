@@ -19,7 +19,7 @@ pub fn link() -> Act {
 
 pub fn link_timer() -> Act {
     Act {
-        text: "In the group: button 2 of panel 20 goes into the table that starts timer 1 of channel 2, 2 seconds.",
+        text: "In the group: button 2 of panel 20 goes into the table that starts timer 1 of channel 2; the timer is 2 seconds.",
         call: command(RELAY, 7, [0xCA, 0x01, 0xB4, PANEL, 0x02, 0xFF, 0xFF, 0]),
         steps: 2,
     }

@@ -20,13 +20,14 @@ pub fn show_record<S: Station>(
 ) -> anyhow::Result<()> {
     let cells = cells(module);
     print!(rt; "{module} {address:02X}: all cells FF")?;
-    let mut joint = " but";
+    let mut differs = false;
     for place in 0..cells {
         match house.record(address, place) {
             Some(0xFF) | None => {}
             Some(byte) => {
+                let joint = if differs { "" } else { " but" };
                 print!(rt; "{joint} {place:04X}={byte:02X}")?;
-                joint = "";
+                differs = true;
             }
         }
     }
