@@ -6,80 +6,53 @@ ghost use Rattle.house.specs.Houses.{pending_of, bus_of};
 ghost use Rattle.house.specs.Turns.{called};
 ghost use Rattle.trace.specs.Traces.{steps, Stepped, Passed, PassedAtMost};
 
+use crate::shown::Shown;
 use bus::{Frame, Refusal};
-use house::House;
-use station::{Edge, Station};
+use house::{Call, House};
+use runs::Reply;
+use station::Station;
 use std::alloc::Global;
 use std::collections::BTreeMap;
-use words::{Hex, InWords, ModuleType};
+use words::ModuleType;
 
-// The kinds of the modules by address, the frames in the order in which they came onto the bus, and how many of them
-// passed.
 #[derive(Drop)]
 pub struct Trace<S: Station + Drop> {
     house: House<S>,
-    modules: BTreeMap<u8, ModuleType>,
-    frames: Vec<Frame>,
-    passed: usize,
+    shown: Shown,
 }
 
 // Room for what 16 seats send; no house has more.
 const PLACES: usize = 144;
 
-// Tells that a call was refused.
-fn refused(rt: &HostRuntime, refusal: Refusal) -> anyhow::Result<()> {
-    let number = refusal.number();
-    println!(rt; "      refused with {number}: {refusal}")?;
-    Ok(())
-}
+const SECOND: Call = Call::Second { places: PLACES };
+
+const STEP: Call = Call::Step { places: PLACES };
 
 impl<S: Station + Drop> Trace<S> {
     pub fn new(heap: Global, house: House<S>, modules: BTreeMap<u8, ModuleType>) -> Self
         ensures house { result.house ≡ house }
-        ensures frames { result.frames.items ≡ [] }
-        ensures passed { result.passed ≡ 0 }
+        ensures frames { result.shown.frames.items ≡ [] }
+        ensures passed { result.shown.passed ≡ 0 }
     {
         Trace {
             house,
-            modules,
-            frames: Vec::new(heap),
-            passed: 0,
+            shown: Shown::new(heap, modules),
         }
     }
 
     // The frames that came onto the bus so far, oldest first.
     pub fn frames(&self) -> &[Frame]
-        ensures { result.now ≡ self.now.frames.items }
+        ensures { result.now ≡ self.now.shown.frames.items }
     {
-        self.frames.as_slice()
+        self.shown.frames()
     }
 
-    // Puts a frame.
+    // Puts a frame. A refusal is printed here, and not passed on; so below.
     pub fn put(&mut self, rt: &HostRuntime, frame: Frame) -> anyhow::Result<()>
         ensures { bus_of S.seats self.new.house ≡ called (Put frame) (bus_of S.seats self.old.house) }
     {
-        let answer = self.house.put(frame);
-        self.tell_put(rt, frame, answer)
-    }
-
-    // Tells what was put, and what was answered: a refusal is printed here, and not passed on.
-    fn tell_put(
-        &mut self,
-        rt: &HostRuntime,
-        frame: Frame,
-        answer: Result<(), Refusal>,
-    ) -> anyhow::Result<()>
-        ensures { self.new.house ≡ self.old.house }
-    {
-        self.line(rt, "put", frame)?;
-        match answer {
-            Ok(()) => {
-                self.frames.push(frame)?;
-                println!(rt; "      accepted")?;
-                Ok(())
-            }
-            Err(refusal) => refused(rt, refusal),
-        }
+        let answer = self.house.put(frame).map(|()| Reply::Accepted);
+        self.shown.show(rt, Call::Put(frame), answer, &[])
     }
 
     // Pushes a button; the edge is a number, as the house takes it.
@@ -94,14 +67,14 @@ impl<S: Station + Drop> Trace<S> {
     {
         let mut buffer = [Frame::default(); PLACES];
         let answer = self.house.push(address, channel, edge, &mut buffer);
-        let name = match Edge::try_from(edge) {
-            Ok(Edge::Press) => "press",
-            Ok(Edge::Release) => "release",
-            Ok(Edge::LongPress) => "long press",
-            Err(_) => "no edge",
+        let call = Call::Push {
+            address,
+            channel,
+            edge,
+            places: PLACES,
         };
-        println!(rt; "push  address {address:02X}, channel {channel}, edge {edge} ({name})")?;
-        self.tell(rt, &buffer, answer)
+        self.shown
+            .show(rt, call, reply(answer), sent(&buffer, answer))
     }
 
     // Lets a second pass.
@@ -110,8 +83,8 @@ impl<S: Station + Drop> Trace<S> {
     {
         let mut buffer = [Frame::default(); PLACES];
         let answer = self.house.second(&mut buffer);
-        println!(rt; "second")?;
-        self.tell(rt, &buffer, answer)
+        self.shown
+            .show(rt, SECOND, reply(answer), sent(&buffer, answer))
     }
 
     // Lets seconds pass, and says in one line how many. Before that line come the frames that a second sent, with the
@@ -144,12 +117,12 @@ impl<S: Station + Drop> Trace<S> {
     {
         let mut buffer = [Frame::default(); PLACES];
         let outcome = self.house.second(&mut buffer);
-        let sent = outcome.map_or(0, |(sent, _)| sent);
-        if outcome.is_err() || sent > 0 {
+        let sent = sent(&buffer, outcome);
+        if outcome.is_err() || !sent.is_empty() {
             println!(rt; "second {n} of {seconds}")?;
-            self.tell(rt, &buffer, outcome)?;
+            self.shown.show_answer(rt, SECOND, reply(outcome), sent)?;
         }
-        Ok(sent)
+        Ok(sent.len())
     }
 
     // Steps until no frame is pending, 256 times at most; the loop has no index.
@@ -172,44 +145,18 @@ impl<S: Station + Drop> Trace<S> {
     {
         let mut buffer = [Frame::default(); PLACES];
         let answer = self.house.step(&mut buffer);
-        if let Some(frame) = self.frames.get(self.passed) {
-            self.line(rt, "step", *frame)?;
-        }
-        if answer.is_ok() {
-            self.passed = self.passed.saturating_add(1);
-        }
-        self.tell(rt, &buffer, answer)
+        self.shown
+            .show(rt, STEP, reply(answer), sent(&buffer, answer))
     }
+}
 
-    // Tells what was answered, a refusal too, and prints and notes each frame that was sent.
-    fn tell(
-        &mut self,
-        rt: &HostRuntime,
-        buffer: &[Frame],
-        answer: Result<(usize, usize), Refusal>,
-    ) -> anyhow::Result<()>
-        ensures { self.new.house ≡ self.old.house }
-    {
-        let (sent, pending) = match answer {
-            Ok(counts) => counts,
-            Err(refusal) => return refused(rt, refusal),
-        };
-        println!(rt; "      {sent} sent, {pending} pending")?;
-        for frame in buffer.iter().take(sent) {
-            self.line(rt, "sent", *frame)?;
-            self.frames.push(*frame)?;
-        }
-        Ok(())
-    }
+// A pair of counts as a reply.
+fn reply(answer: Result<(usize, usize), Refusal>) -> Result<Reply, Refusal> {
+    answer.map(|(sent, pending)| Reply::Counts { sent, pending })
+}
 
-    // A line with what happens to a frame, the frame, and the frame in words.
-    fn line(&self, rt: &HostRuntime, what: &str, frame: Frame) -> anyhow::Result<()> {
-        let hex = Hex(frame);
-        let spoken = InWords {
-            module: self.modules.get(&frame.address).copied(),
-            frame,
-        };
-        println!(rt; "{what:6}{hex}  {spoken}")?;
-        Ok(())
-    }
+// The frames that were sent, at the front of the buffer.
+fn sent(buffer: &[Frame], answer: Result<(usize, usize), Refusal>) -> &[Frame] {
+    let number = answer.map_or(0, |(sent, _)| sent);
+    buffer.get(..number).unwrap_or(&[])
 }

@@ -1,0 +1,43 @@
+// Records, as an installer reads them.
+use house::House;
+use station::Station;
+use words::ModuleType;
+
+// How many cells the memory of a module has.
+fn cells(module: ModuleType) -> usize {
+    match module {
+        ModuleType::Panel => 256,
+        ModuleType::Relay | ModuleType::Buttons => 1024,
+    }
+}
+
+// Shows the record of a module in one line: its cells, except those that are as in a new memory, and its state bytes.
+pub fn show_record<S: Station>(
+    rt: &HostRuntime,
+    house: &House<S>,
+    address: u8,
+    module: ModuleType,
+) -> anyhow::Result<()> {
+    let cells = cells(module);
+    print!(rt; "{module} {address:02X}: all cells FF")?;
+    let mut differs = false;
+    for place in 0..cells {
+        match house.record(address, place) {
+            Some(0xFF) | None => {}
+            Some(byte) => {
+                let joint = if differs { "" } else { " but" };
+                print!(rt; "{joint} {place:04X}={byte:02X}")?;
+                differs = true;
+            }
+        }
+    }
+    print!(rt; "; state bytes")?;
+    for place in cells..usize::MAX {
+        let Some(byte) = house.record(address, place) else {
+            break;
+        };
+        print!(rt; " {byte:02X}")?;
+    }
+    println!(rt; "")?;
+    Ok(())
+}

@@ -1,0 +1,3 @@
+pub mod Alike
+pub mod Grouped
+pub mod Sent

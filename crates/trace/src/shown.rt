@@ -1,0 +1,152 @@
+// How calls are shown: a few lines for each call, with every frame in hexadecimal and in words.
+ghost use Rattle.std.specs.Prelude.{◌≡◌, []};
+
+use bus::{Frame, Refusal};
+use house::Call;
+use runs::Reply;
+use station::Edge;
+use std::alloc::Global;
+use std::collections::BTreeMap;
+use words::{Hex, InWords, ModuleType};
+
+// The kinds of the modules by address, the frames in the order in which they came onto the bus, and how many of them
+// passed.
+#[derive(Drop)]
+pub struct Shown {
+    modules: BTreeMap<u8, ModuleType>,
+    frames: Vec<Frame>,
+    passed: usize,
+}
+
+impl Shown {
+    // Of a new house.
+    pub fn new(heap: Global, modules: BTreeMap<u8, ModuleType>) -> Self
+        ensures frames { result.frames.items ≡ [] }
+        ensures passed { result.passed ≡ 0 }
+    {
+        Shown {
+            modules,
+            frames: Vec::new(heap),
+            passed: 0,
+        }
+    }
+
+    // The frames that came onto the bus so far, oldest first.
+    pub fn frames(&self) -> &[Frame]
+        ensures { result.now ≡ self.now.frames.items }
+    {
+        self.frames.as_slice()
+    }
+
+    // Shows a call, its answer, and the frames that were sent.
+    pub fn show(
+        &mut self,
+        rt: &HostRuntime,
+        call: Call,
+        answer: Result<Reply, Refusal>,
+        sent: &[Frame],
+    ) -> anyhow::Result<()> {
+        self.show_call(rt, call)?;
+        self.show_answer(rt, call, answer, sent)
+    }
+
+    // The line of a call: for a step, with the frame that waited longest.
+    fn show_call(&self, rt: &HostRuntime, call: Call) -> anyhow::Result<()> {
+        match call {
+            Call::Put(frame) => return self.line(rt, "put", frame),
+            Call::Push {
+                address,
+                channel,
+                edge,
+                ..
+            } => {
+                let name = edge_name(edge);
+                println!(rt;
+                    "push  address {address:02X}, channel {channel}, edge {edge} ({name})"
+                )?
+            }
+            Call::Second { .. } => println!(rt; "second")?,
+            Call::Step { .. } => match self.frames.get(self.passed) {
+                Some(frame) => return self.line(rt, "step", *frame),
+                None => println!(rt; "step")?,
+            },
+            Call::Clear => println!(rt; "clear")?,
+            Call::Record { address, place } => {
+                println!(rt; "record address {address:02X}, place {place}")?
+            }
+        }
+        Ok(())
+    }
+
+    // What was answered, a refusal too, and each frame that was sent.
+    pub(crate) fn show_answer(
+        &mut self,
+        rt: &HostRuntime,
+        call: Call,
+        answer: Result<Reply, Refusal>,
+        sent: &[Frame],
+    ) -> anyhow::Result<()> {
+        match answer {
+            Ok(reply) => {
+                self.note(call)?;
+                show_reply(rt, reply)?;
+            }
+            Err(refusal) => return refused(rt, refusal),
+        }
+        for frame in sent {
+            self.line(rt, "sent", *frame)?;
+            self.frames.push(*frame)?;
+        }
+        Ok(())
+    }
+
+    // Which frames came onto the bus or passed by a call that was served.
+    fn note(&mut self, call: Call) -> anyhow::Result<()> {
+        match call {
+            Call::Put(frame) => self.frames.push(frame)?,
+            Call::Step { .. } => self.passed = self.passed.saturating_add(1),
+            Call::Clear => self.passed = self.frames.len(),
+            Call::Push { .. } | Call::Second { .. } | Call::Record { .. } => {}
+        }
+        Ok(())
+    }
+
+    // A line with what happens to a frame, the frame, and the frame in words.
+    pub fn line(&self, rt: &HostRuntime, what: &str, frame: Frame) -> anyhow::Result<()> {
+        let hex = Hex(frame);
+        let spoken = InWords {
+            module: self.modules.get(&frame.address).copied(),
+            frame,
+        };
+        println!(rt; "{what:6}{hex}  {spoken}")?;
+        Ok(())
+    }
+}
+
+fn edge_name(edge: u8) -> &'static str {
+    match Edge::try_from(edge) {
+        Ok(Edge::Press) => "press",
+        Ok(Edge::Release) => "release",
+        Ok(Edge::LongPress) => "long press",
+        Err(_) => "no edge",
+    }
+}
+
+// Tells that a call was refused.
+fn refused(rt: &HostRuntime, refusal: Refusal) -> anyhow::Result<()> {
+    let number = refusal.number();
+    println!(rt; "      refused with {number}: {refusal}")?;
+    Ok(())
+}
+
+// Tells what a call answered.
+fn show_reply(rt: &HostRuntime, reply: Reply) -> anyhow::Result<()> {
+    match reply {
+        Reply::Accepted => println!(rt; "      accepted")?,
+        Reply::Counts { sent, pending } => println!(rt; "      {sent} sent, {pending} pending")?,
+        Reply::Cleared(removed) => println!(rt; "      {removed} cleared")?,
+        Reply::Byte(Some(byte)) => println!(rt; "      {byte:02X}")?,
+        Reply::Byte(None) => println!(rt; "      no byte")?,
+    }
+    Ok(())
+}
