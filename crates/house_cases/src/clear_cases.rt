@@ -17,8 +17,8 @@ fn nothing_to_clear(rt: HostRuntime) -> Result<(), Fail> {
     Ok(())
 }
 
-// Closing channels 1 and 2 makes three frames: two FB and a 00. They are cleared; the channels stay closed, as their state
-// bytes, 1024 and 1028, and a report tell, for which the next frames are the only ones.
+// Closing channels 1 and 2 makes three frames: two FB and a 00. They are cleared; the channels stay closed, as their
+// state bytes, 1024 and 1028, and a report tell, for which the next frames are the only ones.
 #[test]
 fn three_frames(rt: HostRuntime) -> Result<(), Fail> {
     let mut house = house_over(rt.alloc(), kinds())?;
@@ -46,8 +46,8 @@ fn three_frames(rt: HostRuntime) -> Result<(), Fail> {
     )
 }
 
-// No seat hears a frame that is cleared: the relay's channel 1 stays open, the panel's cell 0 as it was. The house is quiet
-// then, so a push and a second are served.
+// No seat hears a frame that is cleared: the relay's channel 1 stays open, the panel's cell 0 as it was. The house is
+// quiet then, so a push and a second are served.
 #[test]
 fn a_put_frame(rt: HostRuntime) -> Result<(), Fail> {
     let mut house = house_over(rt.alloc(), kinds())?;

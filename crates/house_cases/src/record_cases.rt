@@ -34,7 +34,8 @@ fn pass(rt: &impl Abort, house: &mut House<Kinds>, body: [u8; 12]) -> Result<(),
     Ok(())
 }
 
-// Each new cell is FF and each new state byte 0. A relay has 1,024 and 16, a panel 256 and 4, an interface 1,024 and 32.
+// Each new cell is FF and each new state byte 0. A relay has 1,024 and 16, a panel 256 and 4, an interface 1,024 and
+// 32.
 #[test]
 fn first_and_last_places(rt: HostRuntime) -> Result<(), Fail> {
     let house = house_over(rt.alloc(), kinds())?;

@@ -1,5 +1,5 @@
-// What refuses the calls of a sound house of three seats, which takes 27 places; of reasons that apply together, the one
-// with the smallest number is told. How the builder's faults refuse is in `seat_cases`, and 10 is in `room_cases`.
+// What refuses the calls of a sound house of three seats, which takes 27 places; of reasons that apply together, the
+// one with the smallest number is told. How the builder's faults refuse is in `seat_cases`, and 10 is in `room_cases`.
 use crate::calls::{mark, refuses, served};
 use crate::stations::{house_over, kinds};
 use bus::Frame;

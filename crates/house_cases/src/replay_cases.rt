@@ -239,8 +239,8 @@ fn no_calls(rt: HostRuntime) -> Result<(), Fail> {
     served(house.put(mark()))
 }
 
-// There is no memory for such a buffer. The calls before it are noted, it and those after it are not made, and the house
-// goes on: what the panel told is pending.
+// There is no memory for such a buffer. The calls before it are noted, it and those after it are not made, and the
+// house goes on: what the panel told is pending.
 #[test]
 fn too_large_a_buffer(rt: HostRuntime) -> Result<(), Fail> {
     let huge = Call::Step { places: usize::MAX };

@@ -1,5 +1,5 @@
-// Room on the bus: with N relays and p pending frames a step is served if p - 1 + 9 N is at most 256. So it is served up
-// to p = 257 - 9 N, and refused with 10 from there on.
+// Room on the bus: with N relays and p pending frames a step is served if p - 1 + 9 N is at most 256. So it is served
+// up to p = 257 - 9 N, and refused with 10 from there on.
 use crate::calls::{mark, refuses, served, steps};
 use crate::stations::{eleven, fifteen, fourteen, house_over, sixteen, ten, thirteen, twelve};
 use bus::Frame;
@@ -25,8 +25,8 @@ fn link<S: Station>(
     steps(rt, house, 1, 0)
 }
 
-// On a 00 from 77 all channels of the relays from 10 up to `end` toggle, on one from 10 all of 11 to 19, and on one from
-// 11 or 12 two channels of 18 and of 19. Nobody stands at 77, and FF is no address.
+// On a 00 from 77 all channels of the relays from 10 up to `end` toggle, on one from 10 all of 11 to 19, and on one
+// from 11 or 12 two channels of 18 and of 19. Nobody stands at 77, and FF is no address.
 fn link_all<S: Station>(rt: &impl Abort, house: &mut House<S>, end: u8) -> Result<(), Fail> {
     for relay in 0x10..0x1A {
         let button = if relay < end { 0x77 } else { 0xFF };
@@ -54,10 +54,11 @@ fn step<S: Station>(
     Ok(())
 }
 
-// A relay with k channels that toggle sends k FB, a 00 and k F5 or F6. Of the N relays, 20 - N stand below `end`; `limit`
-// is 257 - 9 N. So the 00 of 77 makes 9 (20 - N) frames, nine from each of 10, 11, 12 and so on. After the four FB of 10
-// its 00 makes 81 more, which is 9 (20 - N) - 5 + 81 = limit - 1. After four F6 of 10 and four FB of 11 follow the 00 of
-// 11, for ten frames of 18 and 19, and after four F6 of 11 and four FB of 12 that of 12, for ten again.
+// A relay with k channels that toggle sends k FB, a 00 and k F5 or F6. Of the N relays, 20 - N stand below `end`;
+// `limit` is 257 - 9 N. So the 00 of 77 makes 9 (20 - N) frames, nine from each of 10, 11, 12 and so on. After the
+// four FB of 10 its 00 makes 81 more, which is 9 (20 - N) - 5 + 81 = limit - 1. After four F6 of 10 and four FB of 11
+// follow the 00 of 11, for ten frames of 18 and 19, and after four F6 of 11 and four FB of 12 that of 12, for ten
+// again.
 fn stops_at<S: Station + Drop>(
     rt: &(impl Abort + AllocGlobal),
     station: S,

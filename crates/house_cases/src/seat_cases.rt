@@ -7,8 +7,8 @@ use station::{Rail, Sieve, Station};
 use std::process::Abort;
 use std::test::*;
 
-// Every call but a record must be refused with that number. Other reasons apply to most of the calls as well: an ill-formed
-// frame, no places, a seat and a button that there are not, or nothing that is pending.
+// Every call but a record must be refused with that number. Other reasons apply to most of the calls as well: an ill-
+// formed frame, no places, a seat and a button that there are not, or nothing that is pending.
 fn faulty<S: Station + Drop>(
     rt: &(impl Abort + AllocGlobal),
     station: S,
