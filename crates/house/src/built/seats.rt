@@ -9,6 +9,8 @@ use bus::{Outbox, Refusal};
 use station::{Addresses, Event, Station};
 
 impl<S: Station> Built<S> {
+    // Not inlined: LLVM would split each move of a large station into many small ones, and take very long over it.
+    #[inline(never)]
     pub(crate) fn new(station: S) -> Self
         ensures { result.station ≡ station }
     {

@@ -1,0 +1,176 @@
+// Houses of 16 seats, which is the most, and houses that were put together wrongly.
+use crate::calls::{mark, refuses, served};
+use crate::stations::{fifteen, house_over, panel, relay, seventeen, two};
+use bus::Frame;
+use house::{Call, House};
+use station::{Rail, Sieve, Station};
+use std::process::Abort;
+use std::test::*;
+
+// Every call but a record must be refused with that number. Other reasons apply to most of the calls as well: an ill-
+// formed frame, no places, a seat and a button that there are not, or nothing that is pending.
+fn faulty<S: Station + Drop>(
+    rt: &(impl Abort + AllocGlobal),
+    station: S,
+    number: u8,
+) -> Result<House<S>, Fail> {
+    let mut house = house_over(rt.alloc(), station)?;
+    let push = Call::Push {
+        address: 0x20,
+        channel: 1,
+        edge: 0,
+        places: 160,
+    };
+    let bad_push = Call::Push {
+        address: 0x77,
+        channel: 0,
+        edge: 3,
+        places: 0,
+    };
+    let table = [
+        Call::Put(mark()),
+        Call::Put(Frame::from([4, 0, 0, 0, 0, 0, 0, 0, 0, 0, 0, 0])),
+        push,
+        bad_push,
+        Call::Second { places: 160 },
+        Call::Second { places: 0 },
+        Call::Step { places: 160 },
+        Call::Step { places: 0 },
+        Call::Clear,
+    ];
+    for call in table {
+        refuses(rt, &mut house, call, number)?;
+    }
+    Ok(house)
+}
+
+// Sixteen seats take 144 places.
+#[test]
+fn sixteen_seats(rt: HostRuntime) -> Result<(), Fail> {
+    let station = Rail {
+        first: fifteen(),
+        second: panel(0x20),
+    };
+    let mut house = house_over(rt.alloc(), station)?;
+    let mut buffer = [mark(); 144];
+    refuses(&rt, &mut house, Call::Second { places: 143 }, 4)?;
+    assert_eq!(rt; served(house.second(&mut buffer))?, (0, 0));
+    assert_eq!(rt; served(house.push(0x20, 8, 0, &mut buffer))?, (1, 1));
+    refuses(&rt, &mut house, Call::Step { places: 143 }, 4)?;
+    assert_eq!(rt; served(house.step(&mut buffer))?, (0, 0));
+    served(house.put(mark()))?;
+    assert_eq!(rt; served(house.clear())?, 1);
+    assert_eq!(rt; house.record(0x1E, 1039), Some(0));
+    assert_eq!(rt; house.record(0x20, 259), Some(0x80));
+    Ok(())
+}
+
+// The record of the last seat is answered too.
+#[test]
+fn seventeen_seats(rt: HostRuntime) -> Result<(), Fail> {
+    let house = faulty(&rt, seventeen(0x20), 3)?;
+    assert_eq!(rt; house.record(0x10, 1024), Some(0));
+    assert_eq!(rt; house.record(0x20, 1023), Some(0xFF));
+    assert_eq!(rt; house.record(0x20, 1040), None);
+    Ok(())
+}
+
+// A panel has 256 cells and 4 state bytes, a relay 1,024 and 16. The record is that of the first one.
+#[test]
+fn one_address_twice(rt: HostRuntime) -> Result<(), Fail> {
+    let panel_first = Rail {
+        first: panel(0x20),
+        second: relay(0x20),
+    };
+    let house = faulty(&rt, panel_first, 2)?;
+    assert_eq!(rt; house.record(0x20, 255), Some(0xFF));
+    assert_eq!(rt; house.record(0x20, 259), Some(0));
+    assert_eq!(rt; house.record(0x20, 260), None);
+    let relay_first = Rail {
+        first: relay(0x20),
+        second: panel(0x20),
+    };
+    let house = faulty(&rt, relay_first, 2)?;
+    assert_eq!(rt; house.record(0x20, 259), Some(0xFF));
+    assert_eq!(rt; house.record(0x20, 1039), Some(0));
+    assert_eq!(rt; house.record(0x20, 1040), None);
+    Ok(())
+}
+
+// A sieve hides no seat from the builder's faults.
+#[test]
+fn one_address_twice_under_a_sieve(rt: HostRuntime) -> Result<(), Fail> {
+    let station = Rail {
+        first: Sieve { below: panel(0x20) },
+        second: Rail {
+            first: relay(0x10),
+            second: relay(0x20),
+        },
+    };
+    let house = faulty(&rt, station, 2)?;
+    assert_eq!(rt; house.record(0x20, 260), None);
+    assert_eq!(rt; house.record(0x10, 1024), Some(0));
+    Ok(())
+}
+
+#[test]
+fn address_0(rt: HostRuntime) -> Result<(), Fail> {
+    let station = Rail {
+        first: relay(0x10),
+        second: panel(0),
+    };
+    let house = faulty(&rt, station, 1)?;
+    assert_eq!(rt; house.record(0, 0), Some(0xFF));
+    assert_eq!(rt; house.record(0, 259), Some(0));
+    assert_eq!(rt; house.record(0, 260), None);
+    assert_eq!(rt; house.record(0x10, 1024), Some(0));
+    Ok(())
+}
+
+#[test]
+fn address_255(rt: HostRuntime) -> Result<(), Fail> {
+    let station = Rail {
+        first: panel(0xFF),
+        second: relay(0x10),
+    };
+    let house = faulty(&rt, station, 1)?;
+    assert_eq!(rt; house.record(0xFF, 255), Some(0xFF));
+    assert_eq!(rt; house.record(0xFF, 256), Some(0));
+    assert_eq!(rt; house.record(0xFF, 260), None);
+    Ok(())
+}
+
+// Of two faults the smaller is told, whichever seats have it.
+#[test]
+fn two_faults(rt: HostRuntime) -> Result<(), Fail> {
+    let late_zero = Rail {
+        first: two([0x20, 0x20]),
+        second: panel(0),
+    };
+    faulty(&rt, late_zero, 1)?;
+    let early_zero = Rail {
+        first: panel(0),
+        second: two([0x20, 0x20]),
+    };
+    let house = faulty(&rt, early_zero, 1)?;
+    assert_eq!(rt; house.record(0x20, 1039), Some(0));
+    faulty(&rt, two([0, 0]), 1)?;
+    faulty(&rt, two([0xFF, 0xFF]), 1)?;
+    Ok(())
+}
+
+#[test]
+fn seventeen_seats_and_another_fault(rt: HostRuntime) -> Result<(), Fail> {
+    let house = faulty(&rt, seventeen(0x10), 2)?;
+    assert_eq!(rt; house.record(0x1F, 1040), None);
+    let house = faulty(&rt, seventeen(0xFF), 1)?;
+    assert_eq!(rt; house.record(0xFF, 1023), Some(0xFF));
+    // the 18th seat
+    let all_three = Rail {
+        first: seventeen(0x10),
+        second: panel(0),
+    };
+    let house = faulty(&rt, all_three, 1)?;
+    assert_eq!(rt; house.record(0, 259), Some(0));
+    Ok(())
+}

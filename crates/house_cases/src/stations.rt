@@ -1,0 +1,167 @@
+// Houses of one to 17 modules.
+use buttons::ButtonInterface;
+use house::House;
+use interface::{InterfaceSetup, Serial};
+use kinds::{new_button_interface, new_panel, new_relay};
+use module::Seat;
+use panel::{Panel, PanelSetup};
+use relay::{PerChannel, Relay, RelaySetup, Timers};
+use station::{Rail, Station};
+use std::alloc::Global;
+use std::test::*;
+
+pub(crate) type Two = Rail<Seat<Relay>, Seat<Relay>>;
+
+type Four = Rail<Two, Two>;
+
+pub(crate) type Eight = Rail<Four, Four>;
+
+pub(crate) type Ten = Rail<Eight, Two>;
+
+pub(crate) type Eleven = Rail<Ten, Seat<Relay>>;
+
+pub(crate) type Twelve = Rail<Eight, Four>;
+
+pub(crate) type Thirteen = Rail<Twelve, Seat<Relay>>;
+
+pub(crate) type Fourteen = Rail<Twelve, Two>;
+
+pub(crate) type Fifteen = Rail<Fourteen, Seat<Relay>>;
+
+pub(crate) type Sixteen = Rail<Eight, Eight>;
+
+pub(crate) type Seventeen = Rail<Sixteen, Seat<Relay>>;
+
+// A button interface at 30, a panel at 20 and a relay at 10, in this order.
+pub(crate) type Kinds = Rail<Seat<ButtonInterface>, Rail<Seat<Panel>, Seat<Relay>>>;
+
+pub(crate) fn relay(address: u8) -> Seat<Relay> {
+    let timers = Timers {
+        first: 5,
+        second: 70_000,
+    };
+    let setup = RelaySetup {
+        timers: PerChannel {
+            one: timers,
+            two: timers,
+            three: timers,
+            four: timers,
+        },
+    };
+    new_relay(address, setup)
+}
+
+pub(crate) fn panel(address: u8) -> Seat<Panel> {
+    new_panel(address, PanelSetup { year: 8, week: 17 })
+}
+
+pub(crate) fn kinds() -> Kinds {
+    let setup = InterfaceSetup {
+        serial: Serial {
+            high: 0x12,
+            low: 0x34,
+        },
+        map: 2,
+        year: 11,
+        week: 22,
+    };
+    Rail {
+        first: new_button_interface(0x30, setup),
+        second: Rail {
+            first: panel(0x20),
+            second: relay(0x10),
+        },
+    }
+}
+
+// Relays at these addresses.
+pub(crate) fn two(addresses: [u8; 2]) -> Two {
+    let [a, b] = addresses;
+    Rail {
+        first: relay(a),
+        second: relay(b),
+    }
+}
+
+pub(crate) fn four(addresses: [u8; 4]) -> Four {
+    let [a, b, c, d] = addresses;
+    Rail {
+        first: two([a, b]),
+        second: two([c, d]),
+    }
+}
+
+pub(crate) fn eight(addresses: [u8; 8]) -> Eight {
+    let [a, b, c, d, e, f, g, h] = addresses;
+    Rail {
+        first: four([a, b, c, d]),
+        second: four([e, f, g, h]),
+    }
+}
+
+// At 10 to 17.
+fn first_eight() -> Eight {
+    eight([0x10, 0x11, 0x12, 0x13, 0x14, 0x15, 0x16, 0x17])
+}
+
+// From here on each has the addresses from 10 up.
+pub(crate) fn ten() -> Ten {
+    Rail {
+        first: first_eight(),
+        second: two([0x18, 0x19]),
+    }
+}
+
+pub(crate) fn eleven() -> Eleven {
+    Rail {
+        first: ten(),
+        second: relay(0x1A),
+    }
+}
+
+pub(crate) fn twelve() -> Twelve {
+    Rail {
+        first: first_eight(),
+        second: four([0x18, 0x19, 0x1A, 0x1B]),
+    }
+}
+
+pub(crate) fn thirteen() -> Thirteen {
+    Rail {
+        first: twelve(),
+        second: relay(0x1C),
+    }
+}
+
+pub(crate) fn fourteen() -> Fourteen {
+    Rail {
+        first: twelve(),
+        second: two([0x1C, 0x1D]),
+    }
+}
+
+pub(crate) fn fifteen() -> Fifteen {
+    Rail {
+        first: fourteen(),
+        second: relay(0x1E),
+    }
+}
+
+pub(crate) fn sixteen() -> Sixteen {
+    Rail {
+        first: first_eight(),
+        second: eight([0x18, 0x19, 0x1A, 0x1B, 0x1C, 0x1D, 0x1E, 0x1F]),
+    }
+}
+
+// The last relay is at an address of choice.
+pub(crate) fn seventeen(last: u8) -> Seventeen {
+    Rail {
+        first: sixteen(),
+        second: relay(last),
+    }
+}
+
+pub(crate) fn house_over<S: Station + Drop>(heap: Global, station: S) -> Result<House<S>, Fail> {
+    House::new(heap, station).map_err(|_| Fail::new("no memory"))
+}
