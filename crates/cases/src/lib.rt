@@ -7,8 +7,6 @@ mod button_cases;
 #[cfg(test)]
 mod fixture;
 #[cfg(test)]
-mod group_cases;
-#[cfg(test)]
 mod house_cases;
 #[cfg(test)]
 mod panel_cases;

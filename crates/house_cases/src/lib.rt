@@ -5,7 +5,11 @@
 #[cfg(test)]
 mod calls;
 #[cfg(test)]
+mod chime_cases;
+#[cfg(test)]
 mod clear_cases;
+#[cfg(test)]
+mod group_cases;
 #[cfg(test)]
 mod record_cases;
 #[cfg(test)]
