@@ -49,7 +49,13 @@ fn replayed(rt: HostRuntime) -> Result<(), Fail> {
     assert_eq!(rt; done.entries.len(), 7);
     for (entry, (sent, pending)) in done.entries.iter().zip(sent.iter().zip(pending.iter())) {
         assert_eq!(rt; entry.sent.len(), *sent);
-        if let Ok(Reply::Counts { sent: told, pending: left }) = entry.answer {
+        if let Ok(
+            Reply::Counts {
+                sent: told,
+                pending: left,
+            },
+        ) = entry.answer
+        {
             assert_eq!(rt; told, *sent);
             assert_eq!(rt; left, *pending);
         }
@@ -82,12 +88,42 @@ fn hear(
 fn remembered(rt: HostRuntime) -> Result<(), Fail> {
     let mut house = house_over(rt.alloc(), with_chime())?;
     let mut buffer = [7; 254];
-    hear(&rt, &mut house, Frame::new(3, 0x21, 3, [0xA0, 0x20, 9, 0, 0, 0, 0, 0]), 0)?;
-    hear(&rt, &mut house, Frame::new(3, 0x21, 3, [0xA0, 0x10, 10, 0, 0, 0, 0, 0]), 0)?;
-    hear(&rt, &mut house, Frame::new(3, 0x21, 4, [0xFC, 0, 36, 0x77, 0, 0, 0, 0]), 0)?;
-    hear(&rt, &mut house, Frame::new(3, 0x21, 4, [0xFC, 0, 37, 0x78, 0, 0, 0, 0]), 0)?;
-    hear(&rt, &mut house, Frame::new(3, 0x21, 7, [0xCA, 0, 34, 1, 2, 3, 4, 0]), 0)?;
-    hear(&rt, &mut house, Frame::new(0, 0x20, 4, [0, 1, 0, 0, 0, 0, 0, 0]), 9)?;
+    hear(
+        &rt,
+        &mut house,
+        Frame::new(3, 0x21, 3, [0xA0, 0x20, 9, 0, 0, 0, 0, 0]),
+        0,
+    )?;
+    hear(
+        &rt,
+        &mut house,
+        Frame::new(3, 0x21, 3, [0xA0, 0x10, 10, 0, 0, 0, 0, 0]),
+        0,
+    )?;
+    hear(
+        &rt,
+        &mut house,
+        Frame::new(3, 0x21, 4, [0xFC, 0, 36, 0x77, 0, 0, 0, 0]),
+        0,
+    )?;
+    hear(
+        &rt,
+        &mut house,
+        Frame::new(3, 0x21, 4, [0xFC, 0, 37, 0x78, 0, 0, 0, 0]),
+        0,
+    )?;
+    hear(
+        &rt,
+        &mut house,
+        Frame::new(3, 0x21, 7, [0xCA, 0, 34, 1, 2, 3, 4, 0]),
+        0,
+    )?;
+    hear(
+        &rt,
+        &mut house,
+        Frame::new(0, 0x20, 4, [0, 1, 0, 0, 0, 0, 0, 0]),
+        9,
+    )?;
     for (place, byte) in [(35, 0xFF), (36, 0x77), (37, 0x20), (38, 9)] {
         assert_eq!(rt; house.record(0x21, place), Some(byte));
     }

@@ -9,11 +9,7 @@ use std::process::Abort;
 use std::test::*;
 
 // Each of these links is written to the memory of its relay, each in a pair of its own.
-fn link<S: Station>(
-    rt: &impl Abort,
-    house: &mut House<S>,
-    links: &[(u8, u8)],
-) -> Result<(), Fail> {
+fn link<S: Station>(rt: &impl Abort, house: &mut House<S>, links: &[(u8, u8)]) -> Result<(), Fail> {
     let mut cell = 0x3C;
     for (relay, address) in links.iter().copied() {
         let write = Frame::new(3, relay, 4, [0xFC, 0, cell, address, 0, 0, 0, 0]);
@@ -47,7 +43,9 @@ fn refuses<S: Station>(
     buffer: &mut [u8],
     expected: u8,
 ) -> Result<(), Fail> {
-    let number = house.group(address, buffer).map_or_else(Refusal::number, |_| 0);
+    let number = house
+        .group(address, buffer)
+        .map_or_else(Refusal::number, |_| 0);
     assert_eq!(rt; number, expected);
     for byte in buffer.iter() {
         assert_eq!(rt; *byte, 7);

@@ -53,7 +53,7 @@ fn play<S: Station + Drop>(
 ) -> anyhow::Result<Replayed<S>> {
     let calls = calls_of(rt.alloc(), acts)?;
     let done = replay(rt.alloc(), modules, calls.as_slice()).map_err(|_| anyhow!(
-        "there is no memory for the house"
+        "there is no memory for the calls"
     ))?;
     let mut entries = done.entries.iter();
     for act in acts {

@@ -17,6 +17,7 @@ impl<S: Station> House<S> {
     {
         self.check_group(address, buffer.len())?;
         let group = Group::new(&self.built.station, address);
+        // the places were counted before, so it is listed
         group.list(buffer).ok_or(Refusal::ShortBuffer)
     }
 
