@@ -15,7 +15,7 @@ fn link<S: Station>(rt: &impl Abort, house: &mut House<S>, links: &[(u8, u8)]) -
         let write = Frame::new(3, relay, 4, [0xFC, 0, cell, address, 0, 0, 0, 0]);
         served(house.put(write))?;
         steps(rt, house, 1, 0)?;
-        cell = (cell + 2) & 0x7F;
+        cell = cell.wrapping_add(2);
     }
     Ok(())
 }
