@@ -65,11 +65,13 @@ fn sixteen_seats(rt: HostRuntime) -> Result<(), Fail> {
     Ok(())
 }
 
-// The record of the last seat is answered too.
+// A chime has 37 cells and 2 state bytes. The record of the last seat is answered too.
 #[test]
 fn seventeen_seats(rt: HostRuntime) -> Result<(), Fail> {
     let house = faulty(&rt, seventeen(0x20), 3)?;
-    assert_eq!(rt; house.record(0x10, 1024), Some(0));
+    assert_eq!(rt; house.record(0x10, 36), Some(0xFF));
+    assert_eq!(rt; house.record(0x1F, 38), Some(0));
+    assert_eq!(rt; house.record(0x1F, 39), None);
     assert_eq!(rt; house.record(0x20, 1023), Some(0xFF));
     assert_eq!(rt; house.record(0x20, 1040), None);
     Ok(())
@@ -162,7 +164,9 @@ fn two_faults(rt: HostRuntime) -> Result<(), Fail> {
 #[test]
 fn seventeen_seats_and_another_fault(rt: HostRuntime) -> Result<(), Fail> {
     let house = faulty(&rt, seventeen(0x10), 2)?;
-    assert_eq!(rt; house.record(0x1F, 1040), None);
+    assert_eq!(rt; house.record(0x1F, 37), Some(0));
+    // of the chime, which stands first
+    assert_eq!(rt; house.record(0x10, 39), None);
     let house = faulty(&rt, seventeen(0xFF), 1)?;
     assert_eq!(rt; house.record(0xFF, 1023), Some(0xFF));
     // the 18th seat

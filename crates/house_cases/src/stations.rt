@@ -1,5 +1,6 @@
 // Houses of one to 17 modules.
 use buttons::ButtonInterface;
+use chime::Chime;
 use house::House;
 use interface::{InterfaceSetup, Serial};
 use kinds::{new_button_interface, new_panel, new_relay};
@@ -30,7 +31,11 @@ pub(crate) type Fifteen = Rail<Fourteen, Seat<Relay>>;
 
 pub(crate) type Sixteen = Rail<Eight, Eight>;
 
-pub(crate) type Seventeen = Rail<Sixteen, Seat<Relay>>;
+type FourChimes = Rail<Rail<Chime, Chime>, Rail<Chime, Chime>>;
+
+type SixteenChimes = Rail<Rail<FourChimes, FourChimes>, Rail<FourChimes, FourChimes>>;
+
+pub(crate) type Seventeen = Rail<SixteenChimes, Seat<Relay>>;
 
 // A button interface at 30, a panel at 20 and a relay at 10, in this order.
 pub(crate) type Kinds = Rail<Seat<ButtonInterface>, Rail<Seat<Panel>, Seat<Relay>>>;
@@ -154,10 +159,34 @@ pub(crate) fn sixteen() -> Sixteen {
     }
 }
 
-// The last relay is at an address of choice.
+// At this address and the three after it.
+fn four_chimes(address: u8) -> FourChimes {
+    let chime = |n: u8| Chime::new(address.wrapping_add(n), 5);
+    Rail {
+        first: Rail {
+            first: chime(0),
+            second: chime(1),
+        },
+        second: Rail {
+            first: chime(2),
+            second: chime(3),
+        },
+    }
+}
+
+// Sixteen chimes, which are small, at 10 to 1F, and a relay at an address of choice.
 pub(crate) fn seventeen(last: u8) -> Seventeen {
     Rail {
-        first: sixteen(),
+        first: Rail {
+            first: Rail {
+                first: four_chimes(0x10),
+                second: four_chimes(0x14),
+            },
+            second: Rail {
+                first: four_chimes(0x18),
+                second: four_chimes(0x1C),
+            },
+        },
         second: relay(last),
     }
 }
