@@ -1,1 +1,2 @@
 pub mod Traces
+pub mod Noted

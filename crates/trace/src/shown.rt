@@ -1,5 +1,6 @@
 // How calls are shown: a few lines for each call, with every frame in hexadecimal and in words.
-ghost use Rattle.std.specs.Prelude.{◌≡◌, []};
+ghost use Rattle.std.specs.Prelude.{◌≡◌, [], ◌++◌, OnOk};
+ghost use Rattle.trace.specs.Noted.{frame_put, arrived};
 
 use bus::{Frame, Refusal};
 use house::Call;
@@ -45,7 +46,9 @@ impl Shown {
         call: Call,
         answer: Result<Reply, Refusal>,
         sent: &[Frame],
-    ) -> anyhow::Result<()> {
+    ) -> anyhow::Result<()>
+        ensures { OnOk result (self.new.frames.items ≡ self.old.frames.items ++ arrived call answer sent.now) }
+    {
         self.show_call(rt, call)?;
         self.show_answer(rt, call, answer, sent)
     }
@@ -85,14 +88,23 @@ impl Shown {
         call: Call,
         answer: Result<Reply, Refusal>,
         sent: &[Frame],
-    ) -> anyhow::Result<()> {
+    ) -> anyhow::Result<()>
+        ensures { OnOk result (self.new.frames.items ≡ self.old.frames.items ++ arrived call answer sent.now) }
+    {
         match answer {
             Ok(reply) => {
                 self.note(call)?;
                 show_reply(rt, reply)?;
+                self.show_sent(rt, sent)
             }
-            Err(refusal) => return refused(rt, refusal),
+            Err(refusal) => refused(rt, refusal),
         }
+    }
+
+    // Each frame that was sent.
+    fn show_sent(&mut self, rt: &HostRuntime, sent: &[Frame]) -> anyhow::Result<()>
+        ensures { OnOk result (self.new.frames.items ≡ self.old.frames.items ++ sent.now) }
+    {
         for frame in sent {
             self.line(rt, "sent", *frame)?;
             self.frames.push(*frame)?;
@@ -101,7 +113,9 @@ impl Shown {
     }
 
     // Which frames came onto the bus or passed by a call that was served.
-    fn note(&mut self, call: Call) -> anyhow::Result<()> {
+    fn note(&mut self, call: Call) -> anyhow::Result<()>
+        ensures { OnOk result (self.new.frames.items ≡ self.old.frames.items ++ frame_put call) }
+    {
         match call {
             Call::Put(frame) => self.frames.push(frame)?,
             Call::Step { .. } => self.passed = self.passed.saturating_add(1),
