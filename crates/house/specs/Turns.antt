@@ -92,9 +92,18 @@ pub record Bus : Type 0 where
 abbrev pub called : Call → Bus → Bus
 called c x = record { seats = (turn x.seats x.pending c).seats; pending = (turn x.seats x.pending c).pending }
 
--- a buffer after frames were written to its front
-abbrev pub copied_in : List Frame → List Frame → List Frame
-copied_in fs buffer = fs ++ drop (length fs) buffer
+-- a buffer after a list was written to its front
+abbrev pub copied_in : {A : Type 0} → List A → List A → List A
+copied_in xs buffer = xs ++ drop (length xs) buffer
+
+-- a call with so many places in the buffer handed in, where it has one
+abbrev pub with_places : ℕ → Call → Call
+with_places n (Put f) = Put f
+with_places n (Push a c e m) = Push a c e n
+with_places n (Second m) = Second n
+with_places n (Step m) = Step n
+with_places n Clear = Clear
+with_places n (Record a m) = Record a m
 
 -- each number is below those after it
 abbrev pub Rises : Checks → Type 0

@@ -15,10 +15,10 @@ use Rattle.house.specs.declared.call.Call.{Call}
 use Rattle.house.specs.declared.call.Call.TheVariants.{Put, Push, Second, Step, Clear, Record}
 use Rattle.house.specs.Answers.{cleared}
 use Rattle.house.specs.Faults.{Checks, first_refusal, bad_address}
-use Rattle.house.specs.Turns.{Turn, Bus, acted, served, decided, checks, turn, called}
+use Rattle.house.specs.Turns.{Turn, Bus, acted, served, decided, checks, turn, called, with_places}
 use Rattle.runs.specs.Runs.{Entry, Run, entry, quiet, is_served}
 use Rattle.groups.specs.Links.{Uncrossed}
-use Rattle.runs.specs.Isolation.{Always, members, frames_of, concerns, without_buffer, concerning, all_sent, ClearsNothing, IsolationLaw}
+use Rattle.runs.specs.Isolation.{Always, members, frames_of, concerns, concerning, all_sent, ClearsNothing, IsolationLaw}
 use Rattle.runs.proofs.Grouped.{all_kept, group_sends, group_after, near, Foreign, group_stays}
 use Rattle.runs.proofs.Alone.{Move, made, RunsAlone, at_end, same_end, Follows, moved_first}
 
@@ -28,7 +28,7 @@ seen g t cs = record { seats = members g t.seats; pending = frames_of (near g) t
 
 -- the calls that concern the group: this one first, if it does and was served
 abbrev noted : (ℕ → Bool) → Call → Turn → List Call → List Call
-noted g c t cs = cond (is_served t.answer && concerns g c) (without_buffer c ∷ cs) cs
+noted g c t cs = cond (is_served t.answer && concerns g c) (with_places 0 c ∷ cs) cs
 
 -- where no check is the first that applies, none does
 none_applies : (cs : Checks) → first_refusal cs ≡ None → AllByRecursion (λ c. c.0 ≡ false) cs
@@ -39,7 +39,7 @@ none_applies (c ∷ cs) e =
       | inr m ↦ (m, none_applies cs (rw m at e))
     ]
 
--- no frame is pending where a quiet house was without_buffer for
+-- no frame is pending where a quiet house was asked for
 quiet_now : (q : List Frame) → nat_lt 0 (length q) ≡ false → q ≡ []
 quiet_now q e = let less = ltb-false 0 (length q) e in nil_from_length q (omega arith)
 

@@ -7,12 +7,12 @@ use Rattle.station.specs.Kinds.{Seat}
 use Rattle.house.specs.declared.call.Call.{Call}
 use Rattle.house.specs.declared.call.Call.TheVariants.{Put, Push, Second, Step, Clear, Record}
 use Rattle.house.specs.Faults.{first_refusal}
-use Rattle.house.specs.Turns.{Bus, called, checks, decided, turn, copied_in}
+use Rattle.house.specs.Turns.{Bus, called, checks, decided, turn, copied_in, with_places}
 use Rattle.runs.specs.Runs.{Entry, Run, entry, quiet}
 use Rattle.house.specs.Houses.{bus_of}
 use Rattle.station.specs.declared.station.Station.{Ghosts}
 use Rattle.runs.specs.declared.replayed.Replayed.{Replayed}
-use Rattle.runs.specs.Making.{sent_number, Made}
+use Rattle.runs.specs.Making.{places_of, sent_number, Made}
 use Rattle.runs.specs.Replays.{entries_of, Ran}
 use Rattle.std.proofs.lemmas.List.{map-append}
 
@@ -38,6 +38,15 @@ pub sent_kept : (ss : List Seat) (q : List Frame) (c : Call) (old : List Frame) 
 sent_kept ss q c old =
     let fs = (turn ss q c).sent in
     ap (λ n. take n (copied_in fs old)) (sent_counted ss q c) ∙ take-append_seam fs (drop (length fs) old)
+
+-- a call says how many places its buffer has
+pub own_places : (c : Call) (n : ℕ) → n ≡ places_of c → with_places n c ≡ c
+own_places (Put f) n e = refl
+own_places (Push a c d m) n e = ap (Push a c d) e
+own_places (Second m) n e = ap Second e
+own_places (Step m) n e = ap Step e
+own_places Clear n e = refl
+own_places (Record a m) n e = refl
 
 -- a run with one call more
 pub run_more : (x : Bus) (es : List Entry) (y : Bus) (c : Call) → Run x es y → Run x (es ++ entry y c ∷ []) (called c y)

@@ -9,7 +9,7 @@ use Rattle.groups.specs.Links.{Uncrossed}
 use Rattle.house.specs.declared.call.Call.{Call}
 use Rattle.house.specs.declared.call.Call.TheVariants.{Put, Push, Second, Step, Clear, Record}
 use Rattle.house.specs.Answers.{cleared}
-use Rattle.house.specs.Turns.{Bus, called}
+use Rattle.house.specs.Turns.{Bus, called, with_places}
 use Rattle.runs.specs.Runs.{Entry, Run, quiet, is_served}
 
 -- a fact holds of the seats at the start of a run and after every entry
@@ -35,18 +35,9 @@ concerns g (Step n) = false
 concerns g Clear = false
 concerns g (Record a n) = false
 
--- a call but for the length of its buffer
-abbrev pub without_buffer : Call → Call
-without_buffer (Put f) = Put f
-without_buffer (Push a c e n) = Push a c e 0
-without_buffer (Second n) = Second 0
-without_buffer (Step n) = Step 0
-without_buffer Clear = Clear
-without_buffer (Record a n) = Record a n
-
--- the served calls that concern the group, in order
+-- the served calls that concern the group, in order, but for the lengths of their buffers
 abbrev pub concerning : (ℕ → Bool) → List Entry → List Call
-concerning g es = map (λ e. without_buffer e.call) (filter (λ e. is_served e.answer && concerns g e.call) es)
+concerning g es = map (λ e. with_places 0 e.call) (filter (λ e. is_served e.answer && concerns g e.call) es)
 
 -- the frames that were sent, in order
 abbrev pub all_sent : List Entry → List Frame

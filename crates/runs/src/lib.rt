@@ -2,8 +2,9 @@
 #![tactic(auto)]
 
 mod entry;
-mod perform;
+mod performing;
 mod replayed;
 
 pub use entry::{Entry, Reply};
+pub use performing::perform;
 pub use replayed::{Replayed, Unfinished, replay};

@@ -9,7 +9,7 @@ ghost use Rattle.runs.specs.Memory.{MemoryLaw};
 ghost use Rattle.runs.specs.Isolation.{IsolationLaw};
 
 use crate::entry::{Entry, Reply};
-use crate::perform::{perform, places};
+use crate::performing::{perform, places};
 use bus::{Frame, Refusal};
 use house::{Call, House};
 use station::Station;

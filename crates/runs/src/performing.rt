@@ -1,6 +1,7 @@
 // How a call is made that is given as a value.
 ghost use Rattle.std.specs.Prelude.{◌≡◌, length};
 ghost use Rattle.house.specs.Houses.{turn_of, TakesTurn};
+ghost use Rattle.house.specs.Turns.{with_places};
 ghost use Rattle.runs.specs.Making.{places_of};
 ghost use Rattle.runs.specs.Replays.{shown_reply};
 ghost use Rattle.house.specs.Answers.{shown_counts};
@@ -20,14 +21,13 @@ pub(crate) fn places(call: Call) -> usize
     }
 }
 
-// Makes the call, with a buffer that has the places which the call says.
-pub(crate) fn perform<S: Station>(
+// Makes the call with that buffer, however many places the call says.
+pub fn perform<S: Station>(
     house: &mut House<S>,
     call: Call,
     buffer: &mut [Frame],
 ) -> Result<Reply, Refusal>
-    requires { length buffer.old ≡ places_of call }
-    ensures { TakesTurn S.seats (turn_of S.seats house.old call) (shown_reply result) house.new buffer.old buffer.new }
+    ensures { TakesTurn S.seats (turn_of S.seats house.old (with_places (length buffer.old) call)) (shown_reply result) house.new buffer.old buffer.new }
 {
     match call {
         Call::Put(frame) => {

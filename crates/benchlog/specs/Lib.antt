@@ -1,0 +1,6 @@
+pub mod Kinds
+pub mod Items
+pub mod Reading
+pub mod Bytes
+pub mod Readers
+pub mod Putting
