@@ -1,9 +1,10 @@
 // How a reader reads.
-ghost use Rattle.std.specs.Prelude.{◌≡◌};
+ghost use Rattle.std.specs.Prelude.{◌≡◌, ◌+◌, ◌<◌, length, drop};
 ghost use Rattle.std.specs.Iterator.{YieldsFirstBy, item_count};
-ghost use Rattle.benchlog.specs.Items.{shown_found};
-ghost use Rattle.benchlog.specs.Reading.{told};
-ghost use Rattle.benchlog.specs.Readers.{left};
+ghost use Rattle.benchlog.specs.Kinds.{kind_of};
+ghost use Rattle.benchlog.specs.Items.{shown_found, shown_item};
+ghost use Rattle.benchlog.specs.Reading.{told, item_from};
+ghost use Rattle.benchlog.specs.Readers.{left, read_as};
 
 use crate::fault::Fault;
 use crate::item::Item;
@@ -19,13 +20,14 @@ impl<'a> Reader<'a> {
         Reader { log, cursor: 0 }
     }
 
-    // Reads an item of that kind, whose kind byte was the last one read.
-    fn item(&mut self, kind: ItemKind, place: usize) -> Result<Item<'a>, Refusal> {
-        let rest = &self.log[self.cursor..];
-        let Some((body, _)) = rest.split_at_checked(kind.body_length()) else {
-            return Err(Refusal::CutShort);
-        };
-        self.cursor += body.len();
+    // The item whose kind byte, this one, stands at that place.
+    fn item_at(&self, place: usize, byte: u8) -> Result<Item<'a>, Refusal>
+        requires { place < length self.now.log.now }
+        ensures { read_as result ≡ item_from (kind_of byte) place (drop (place + 1) self.now.log.now) }
+    {
+        let kind = ItemKind::try_from(byte)?;
+        let rest = &self.log[place + 1..];
+        let body = rest.get(..kind.body_length()).ok_or(Refusal::CutShort)?;
         Ok(Item { kind, body, place })
     }
 }
@@ -40,13 +42,11 @@ impl<'a> Iterator for Reader<'a> {
     fn next(&mut self) -> Option<Result<Item<'a>, Fault>> {
         let place = self.cursor;
         let byte = *self.log.get(place)?;
-        self.cursor = place + 1;
-        let found = match ItemKind::try_from(byte) {
-            Ok(kind) => self.item(kind, place),
-            Err(refusal) => Err(refusal),
-        };
-        match found {
-            Ok(item) => Some(Ok(item)),
+        match self.item_at(place, byte) {
+            Ok(item) => {
+                self.cursor = place + 1 + item.body.len();
+                Some(Ok(item))
+            }
             Err(refusal) => {
                 // nothing can be read past a fault
                 self.cursor = self.log.len();
