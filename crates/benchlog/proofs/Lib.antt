@@ -1,1 +1,2 @@
 pub mod Passing
+pub mod RoundTrip

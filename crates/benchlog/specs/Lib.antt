@@ -3,4 +3,5 @@ pub mod Items
 pub mod Reading
 pub mod Bytes
 pub mod Readers
-pub mod Putting
+pub mod PutItems
+pub mod Benches
