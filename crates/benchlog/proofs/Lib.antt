@@ -1,2 +1,3 @@
 pub mod Passing
 pub mod RoundTrip
+pub mod Copies
