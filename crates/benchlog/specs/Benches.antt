@@ -17,6 +17,10 @@ use Rattle.benchlog.specs.Bytes.{answer_bytes, fault_bytes}
 abbrev pub entry_bytes : Entry → List ℕ
 entry_bytes e = answer_bytes e.answer e.sent
 
+-- the answer to an item, on a bus
+abbrev pub item_bytes : Bus → LogItem → List ℕ
+item_bytes x i = entry_bytes (entry x (recorded i))
+
 -- the calls that are recorded, in order
 abbrev pub calls_in : List Found → List Call
 calls_in [] = []
@@ -46,7 +50,6 @@ module _ {S : Type 0} {G : Ghosts S} where
   abbrev pub AnswersItem : (S → List Seat) → LogItem → Result ℕ Refusal → Bench S G → Bench S G → List ℕ → List ℕ → Type 0
   AnswersItem seats i r before after old new =
       let x = bench_bus seats before in
-      let bytes = entry_bytes (entry x (recorded i)) in
       MatchResult r
-      (λ n. (360 ≤ length old) × (bench_bus seats after ≡ called (recorded i) x) × (n ≡ length bytes) × (new ≡ copied_in bytes old))
+      (λ n. (360 ≤ length old) × (bench_bus seats after ≡ called (recorded i) x) × (n ≡ length (item_bytes x i)) × (new ≡ copied_in (item_bytes x i) old))
       (λ e. (length old < 360) × (e ≡ ShortBuffer) × (after ≡ before) × (new ≡ old))

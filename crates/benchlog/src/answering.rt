@@ -1,20 +1,19 @@
 // How a bench answers an item.
-ghost use Rattle.std.specs.Prelude.{◌≡◌, ◌+◌, ◌*◌, ◌≤◌, ◌++◌, [], ◌∷◌, length, take, drop, IfOk, IfErr};
-ghost use Rattle.station.specs.Seats.{places};
-ghost use Rattle.house.specs.Houses.{station_of, bus_of};
-ghost use Rattle.house.specs.Turns.{copied_in};
-ghost use Rattle.runs.specs.Runs.{entry, quiet};
-ghost use Rattle.runs.specs.Replays.{shown_reply};
+ghost use Rattle.std.specs.Prelude.{◌≡◌, ◌+◌, ◌*◌, ◌≤◌, [], ◌∷◌, length, IfOk, IfErr};
+ghost use Rattle.bus.specs.Refusals.{number};
+ghost use Rattle.house.specs.Houses.{station_of};
+ghost use Rattle.house.specs.Turns.{called, copied_in};
+ghost use Rattle.runs.specs.Runs.{quiet};
 ghost use Rattle.benchlog.specs.Items.{shown_item, recorded};
-ghost use Rattle.benchlog.specs.Bytes.{served_bytes, answer_bytes};
-ghost use Rattle.benchlog.specs.Benches.{bench_bus, entry_bytes, AnswersItem};
+ghost use Rattle.benchlog.specs.Bytes.{served_bytes};
+ghost use Rattle.benchlog.specs.Benches.{bench_bus, item_bytes, AnswersItem};
 
 use crate::bench::Bench;
 use crate::item::Item;
 use crate::putting::tagged;
 use bus::{Frame, Refusal};
 use house::House;
-use runs::{Reply, perform};
+use runs::{number_sent, perform};
 use station::Station;
 use std::alloc::{AllocFailed, Global};
 
@@ -33,6 +32,17 @@ fn write_served(sent: &[Frame], buffer: &mut [u8]) -> usize
     at + 1
 }
 
+// Writes the answer to an item that was refused.
+fn write_refused(refusal: Refusal, buffer: &mut [u8]) -> usize
+    requires { 2 ≤ length buffer.old }
+    ensures count { result ≡ 2 }
+    ensures bytes { buffer.new ≡ copied_in (0x82 ∷ number refusal ∷ []) buffer.old }
+{
+    buffer[0] = 0x82;
+    buffer[1] = refusal.number();
+    2
+}
+
 impl<S: Station> Bench<S> {
     // A bench over a new house. Where there is no memory, the station comes back.
     pub fn new(heap: Global, station: S) -> Result<Self, AllocFailed<S>>
@@ -45,5 +55,30 @@ impl<S: Station> Bench<S> {
             house,
             frames: [Frame::default(); 27],
         })
+    }
+
+    // Makes the call that an item records, and writes the answer to the front of a buffer, which has the places.
+    pub(crate) fn write_answer(&mut self, item: &Item<'_>, buffer: &mut [u8]) -> usize
+        requires { 360 ≤ length buffer.old }
+        ensures bus { bench_bus S.seats self.new ≡ called (recorded (shown_item item.now)) (bench_bus S.seats self.old) }
+        ensures count { result ≡ length (item_bytes (bench_bus S.seats self.old) (shown_item item.now)) }
+        ensures bytes { buffer.new ≡ copied_in (item_bytes (bench_bus S.seats self.old) (shown_item item.now)) buffer.old }
+    {
+        let answer = perform(&mut self.house, item.call(), &mut self.frames[..]);
+        match answer {
+            Ok(_) => write_served(&self.frames[..number_sent(&answer)], buffer),
+            Err(refusal) => write_refused(refusal, buffer),
+        }
+    }
+
+    // Answers an item at the front of a buffer with 360 places or more, and says by how many bytes: the frames sent, each
+    // after 0x81, and then 0x80, or 0x82 and the number of a refusal.
+    pub fn answer(&mut self, item: &Item<'_>, buffer: &mut [u8]) -> Result<usize, Refusal>
+        ensures { AnswersItem S.seats (shown_item item.now) result self.old self.new buffer.old buffer.new }
+    {
+        if buffer.len() < 360 {
+            return Err(Refusal::ShortBuffer);
+        }
+        Ok(self.write_answer(item, buffer))
     }
 }

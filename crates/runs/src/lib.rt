@@ -6,5 +6,5 @@ mod performing;
 mod replayed;
 
 pub use entry::{Entry, Reply};
-pub use performing::perform;
+pub use performing::{number_sent, perform};
 pub use replayed::{Replayed, Unfinished, replay};

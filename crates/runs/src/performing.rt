@@ -2,7 +2,7 @@
 ghost use Rattle.std.specs.Prelude.{◌≡◌, length};
 ghost use Rattle.house.specs.Houses.{turn_of, TakesTurn};
 ghost use Rattle.house.specs.Turns.{with_places};
-ghost use Rattle.runs.specs.Making.{places_of};
+ghost use Rattle.runs.specs.Making.{places_of, sent_number};
 ghost use Rattle.runs.specs.Replays.{shown_reply};
 ghost use Rattle.house.specs.Answers.{shown_counts};
 
@@ -53,4 +53,14 @@ fn counts(outcome: Result<(usize, usize), Refusal>) -> Result<Reply, Refusal>
 {
     let (sent, pending) = outcome?;
     Ok(Reply::Counts { sent, pending })
+}
+
+// How many frames a call sent.
+pub fn number_sent(answer: &Result<Reply, Refusal>) -> usize
+    ensures { result ≡ sent_number (shown_reply answer.now) }
+{
+    match answer {
+        Ok(Reply::Counts { sent, .. }) => *sent,
+        _ => 0,
+    }
 }

@@ -3,14 +3,14 @@ ghost use Rattle.std.specs.Prelude.{◌≡◌, length, IfOk, IfErr};
 ghost use Rattle.house.specs.Houses.{station_of, bus_of};
 ghost use Rattle.house.specs.Turns.{called};
 ghost use Rattle.runs.specs.Runs.{entry, quiet};
-ghost use Rattle.runs.specs.Making.{places_of, sent_number, Made};
-ghost use Rattle.runs.specs.Replays.{entries_of, shown_reply, shown_entry, Ran, LeftOff};
+ghost use Rattle.runs.specs.Making.{places_of, Made};
+ghost use Rattle.runs.specs.Replays.{entries_of, shown_entry, Ran, LeftOff};
 ghost use Rattle.runs.specs.Memory.{MemoryLaw};
 ghost use Rattle.runs.specs.Isolation.{IsolationLaw};
 
-use crate::entry::{Entry, Reply};
-use crate::performing::{perform, places};
-use bus::{Frame, Refusal};
+use crate::entry::Entry;
+use crate::performing::{number_sent, perform, places};
+use bus::Frame;
 use house::{Call, House};
 use station::Station;
 use std::alloc::{AllocError, AllocFailed, Global};
@@ -83,15 +83,5 @@ fn noted<S: Station>(house: &mut House<S>, call: Call, mut buffer: Vec<Frame>) -
         call,
         answer,
         sent: buffer,
-    }
-}
-
-// How many frames a call sent.
-fn number_sent(answer: &Result<Reply, Refusal>) -> usize
-    ensures { result ≡ sent_number (shown_reply answer.now) }
-{
-    match answer {
-        Ok(Reply::Counts { sent, .. }) => *sent,
-        _ => 0,
     }
 }
