@@ -1,3 +1,4 @@
 pub mod Passing
 pub mod RoundTrip
 pub mod Copies
+pub mod Served
