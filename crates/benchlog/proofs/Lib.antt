@@ -2,3 +2,4 @@ pub mod Passing
 pub mod RoundTrip
 pub mod Copies
 pub mod Served
+pub mod Ran

@@ -1,5 +1,5 @@
 -- A put item reads back as its frame. Assumes nothing.
-use Rattle.std.proofs.Common.{◌≡◌, ℕ, zero, ◌+◌, arith, List, ◌∷◌, ◌++◌, take, length, Ok, Err, cond, refl, ap, ◌∙◌, false, nat_lt}
+use Rattle.std.proofs.Common.{◌≡◌, zero, ◌+◌, arith, ◌∷◌, ◌++◌, length, Ok, Err, cond, ap, ◌∙◌, false, nat_lt}
 use Rattle.bus.specs.declared.frame.Frame.{Frame}
 use Rattle.bus.specs.declared.refusal.Refusal.TheVariants.{CutShort}
 use Rattle.bus.specs.Frames.{of_body}

@@ -1,6 +1,7 @@
 -- What a bench does with an item and with a log. Assumes nothing.
-use Rattle.std.specs.Prelude.{◌≡◌, ℕ, ◌≤◌, ◌<◌, List, ◌++◌, [], ◌∷◌, map, length, take, Ok, Err, Result, MatchResult}
+use Rattle.std.specs.Prelude.{◌≡◌, ℕ, ◌≤◌, ◌<◌, List, ◌++◌, [], ◌∷◌, map, length, take, Option, Ok, Err, Result, MatchResult}
 use Rattle.std.specs.List.{flat_map}
+use Rattle.std.specs.Io.KnownBytes.{Appends}
 use Rattle.bus.specs.declared.refusal.Refusal.{Refusal}
 use Rattle.bus.specs.declared.refusal.Refusal.TheVariants.{ShortBuffer}
 use Rattle.station.specs.Kinds.{Seat}
@@ -11,6 +12,7 @@ use Rattle.house.specs.Turns.{Bus, called, copied_in}
 use Rattle.runs.specs.Runs.{Entry, entry, Run}
 use Rattle.benchlog.specs.declared.bench.Bench.{Bench}
 use Rattle.benchlog.specs.Items.{LogItem, Found, recorded}
+use Rattle.benchlog.specs.Reading.{told}
 use Rattle.benchlog.specs.Bytes.{answer_bytes, fault_bytes}
 
 -- the answer to what an entry notes
@@ -21,25 +23,33 @@ entry_bytes e = answer_bytes e.answer e.sent
 abbrev pub item_bytes : Bus → LogItem → List ℕ
 item_bytes x i = entry_bytes (entry x (recorded i))
 
--- the calls that are recorded, in order
-abbrev pub calls_in : List Found → List Call
-calls_in [] = []
-calls_in (Ok i ∷ fs) = recorded i ∷ calls_in fs
-calls_in (Err x ∷ fs) = calls_in fs
+-- the bus after what was found in a log: an item's call was made, and a fault does nothing
+abbrev pub after_found : Found → Bus → Bus
+after_found (Ok i) x = called (recorded i) x
+after_found (Err f) x = x
 
--- what is answered to the faults
-abbrev pub faults_in : List Found → List ℕ
-faults_in [] = []
-faults_in (Ok i ∷ fs) = faults_in fs
-faults_in (Err x ∷ fs) = fault_bytes x ++ faults_in fs
+-- the answer to it
+abbrev pub found_bytes : Bus → Found → List ℕ
+found_bytes x (Ok i) = item_bytes x i
+found_bytes x (Err f) = fault_bytes f
 
--- what running a log's items and fault, on a bus x, does: their calls make a run from x to y, and the answers are those of
--- its entries, in order, and then that of the fault, if there is one
-pub record Answered (fs : List Found) (x y : Bus) (bytes : List ℕ) : Type 0 where
+-- the call that is recorded, if it is an item
+abbrev pub call_in : Found → List Call
+call_in (Ok i) = recorded i ∷ []
+call_in (Err f) = []
+
+-- the answer that ends a log, if it is a fault
+abbrev pub end_in : Found → List ℕ
+end_in (Ok i) = []
+end_in (Err f) = fault_bytes f
+
+-- items and a fault were run, which led the bus from x to y: their calls make a run, and the answers are those of its
+-- entries, in order, and then that of the fault, if there is one
+pub record RanItems (fs : List Found) (x y : Bus) (bytes : List ℕ) : Type 0 where
   pub entries : List Entry
   pub run : Run x entries y
-  pub calls : map (λ e. e.call) entries ≡ calls_in fs
-  pub answers : bytes ≡ flat_map entry_bytes entries ++ faults_in fs
+  pub calls : map (λ e. e.call) entries ≡ flat_map call_in fs
+  pub answers : bytes ≡ flat_map entry_bytes entries ++ flat_map end_in fs
 
 module _ {S : Type 0} {G : Ghosts S} where
   -- the bus of a bench
@@ -53,3 +63,13 @@ module _ {S : Type 0} {G : Ghosts S} where
       MatchResult r
       (λ n. (360 ≤ length old) × (bench_bus seats after ≡ called (recorded i) x) × (n ≡ length (item_bytes x i)) × (new ≡ copied_in (item_bytes x i) old))
       (λ e. (length old < 360) × (e ≡ ShortBuffer) × (after ≡ before) × (new ≡ old))
+
+  -- a log was run, and the answers were appended to what was written, where that is known
+  abbrev pub RanLog : (S → List Seat) → List ℕ → Bench S G → Bench S G → Option (List ℕ) → Option (List ℕ) → Type 0
+  RanLog seats log before after old new =
+      (bytes : List ℕ) × RanItems (told log) (bench_bus seats before) (bench_bus seats after) bytes × Appends old new bytes
+
+  -- or an answer could not be written, and what comes after it was not run
+  abbrev pub LeftLog : (S → List Seat) → List ℕ → Bench S G → Bench S G → Type 0
+  LeftLog seats log before after =
+      (n : ℕ) × (bytes : List ℕ) × (0 < n) × (n ≤ length (told log)) × RanItems (take n (told log)) (bench_bus seats before) (bench_bus seats after) bytes

@@ -1,5 +1,5 @@
 -- What a reader has left. Assumes nothing.
-use Rattle.std.specs.Prelude.{ℕ, zero, List, drop, Ok, Err, Result}
+use Rattle.std.specs.Prelude.{zero, List, drop, Ok, Err, Result}
 use Rattle.bus.specs.declared.refusal.Refusal.{Refusal}
 use Rattle.benchlog.specs.declared.reader.Reader.{Reader}
 use Rattle.benchlog.specs.declared.item.Item.{Item}

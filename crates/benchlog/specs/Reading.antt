@@ -1,9 +1,8 @@
 -- How a log reads. Assumes nothing.
-use Rattle.std.specs.Prelude.{ℕ, zero, suc, ◌+◌, cond, List, [], ◌∷◌, length, take, nat_lt, Ok, Err, Result}
+use Rattle.std.specs.Prelude.{◌≡◌, ℕ, zero, suc, ◌+◌, cond, List, [], ◌∷◌, length, take, nat_lt, Ok, Err, Result}
 use Rattle.bus.specs.declared.refusal.Refusal.{Refusal}
 use Rattle.bus.specs.declared.refusal.Refusal.TheVariants.{CutShort}
 use Rattle.benchlog.specs.declared.kind.ItemKind.{ItemKind}
-use Rattle.benchlog.specs.declared.fault.Fault.{Fault}
 use Rattle.benchlog.specs.Kinds.{kind_of, body_length}
 use Rattle.benchlog.specs.Items.{LogItem, Found}
 
@@ -28,3 +27,9 @@ reading zero n (b ∷ bytes) = followed (item_from (kind_of b) n bytes) n (λ i.
 -- what a log tells: its items in their order, and at most one fault, which is the last
 abbrev pub told : List ℕ → List Found
 told log = reading zero 0 log
+
+-- nothing comes after a fault
+abbrev pub EndsAtFault : List Found → Type 0
+EndsAtFault [] = Unit {0}
+EndsAtFault (Ok i ∷ fs) = EndsAtFault fs
+EndsAtFault (Err x ∷ fs) = fs ≡ []

@@ -4,12 +4,14 @@
 mod answering;
 mod bench;
 mod fault;
+mod faults;
 mod item;
 mod items;
 mod kind;
 mod putting;
 mod reader;
 mod reading;
+mod running;
 
 pub use bench::Bench;
 pub use fault::Fault;

@@ -3,7 +3,7 @@ ghost use Rattle.std.specs.Prelude.{◌≡◌, ◌+◌, ◌<◌, length, drop};
 ghost use Rattle.std.specs.Iterator.{YieldsFirstBy, item_count};
 ghost use Rattle.benchlog.specs.Kinds.{kind_of};
 ghost use Rattle.benchlog.specs.Items.{shown_found, shown_item};
-ghost use Rattle.benchlog.specs.Reading.{told, item_from};
+ghost use Rattle.benchlog.specs.Reading.{told, item_from, EndsAtFault};
 ghost use Rattle.benchlog.specs.Readers.{left, read_as};
 
 use crate::fault::Fault;
@@ -14,8 +14,10 @@ use bus::Refusal;
 
 impl<'a> Reader<'a> {
     // At the start of the log.
+    #[tactic(auto, using(crate::proofs::Passing::told_ends))]
     pub fn new(log: &'a [u8]) -> Self
-        ensures { left result ≡ told log.now }
+        ensures all { left result ≡ told log.now }
+        ensures ends { EndsAtFault (left result) }
     {
         Reader { log, cursor: 0 }
     }

@@ -1,9 +1,8 @@
-use Rattle.std.proofs.Common.{arith, ap, sym, ◌∙◌, ◌≡◌, ◌+◌, ◌-◌, ◌++◌, ◌∷◌, [], take, set, length, length-append}
+use Rattle.std.proofs.Common.{arith, ap, sym, ◌∙◌, ◌+◌, ◌-◌, ◌∷◌, [], take, set, length-append}
 use Rattle.std.specs.List.{flat_map}
 use Rattle.std.proofs.lemmas.List.{take_all}
-use Rattle.bus.specs.declared.frame.Frame.{Frame}
 use Rattle.house.specs.Turns.{copied_in}
-use Rattle.benchlog.specs.Bytes.{sent_bytes, served_bytes}
+use Rattle.benchlog.specs.Bytes.{sent_bytes}
 use Rattle.benchlog.proofs.Copies.{copied_more, first_counted, bytes_counted, bytes_more, byte_more}
 use borrow.Rule.Slice.PartMut.{put_mid}
 use Rattle.benchlog.proofs.answering.write_served.Goals as goal

@@ -1,0 +1,44 @@
+// How a bench runs a log.
+ghost use Rattle.std.specs.Prelude.{◌≡◌, ◌≤◌, length, OnOk, OnErr};
+ghost use Rattle.house.specs.Turns.{copied_in};
+ghost use Rattle.benchlog.specs.Items.{shown_found};
+ghost use Rattle.benchlog.specs.Benches.{bench_bus, after_found, found_bytes, RanLog, LeftLog};
+
+use crate::bench::Bench;
+use crate::fault::Fault;
+use crate::item::Item;
+use crate::reader::Reader;
+use station::Station;
+use std::io;
+use std::io::Write;
+
+impl<S: Station> Bench<S> {
+    // Answers what was found in a log at the front of a buffer, which has the places.
+    fn write_found(&mut self, found: &Result<Item<'_>, Fault>, buffer: &mut [u8]) -> usize
+        requires { 360 ≤ length buffer.old }
+        ensures bus { bench_bus S.seats self.new ≡ after_found (shown_found found.now) (bench_bus S.seats self.old) }
+        ensures count { result ≡ length (found_bytes (bench_bus S.seats self.old) (shown_found found.now)) }
+        ensures bytes { buffer.new ≡ copied_in (found_bytes (bench_bus S.seats self.old) (shown_found found.now)) buffer.old }
+    {
+        match found {
+            Ok(item) => self.write_answer(item, buffer),
+            Err(fault) => {
+                buffer[..6].copy_from_slice(&fault.bytes());
+                6
+            }
+        }
+    }
+
+    // Makes the calls that a log records, and writes an answer to each. A fault ends the log, and its answer is the last.
+    pub fn run<W: Write>(&mut self, log: &[u8], out: &mut W) -> io::Result<()>
+        ensures done { OnOk result (RanLog S.seats log.now self.old self.new (W.contents out.old) (W.contents out.new)) }
+        ensures unfinished { OnErr result (LeftLog S.seats log.now self.old self.new) }
+    {
+        let mut buffer = [0; 360];
+        for found in Reader::new(log) {
+            let count = self.write_found(&found, &mut buffer[..]);
+            out.write_all(&buffer[..count])?;
+        }
+        Ok(())
+    }
+}
