@@ -3,7 +3,7 @@ use Rattle.std.proofs.Common.{◌≡◌, ℕ, List, take, Ok, Result, refl, sym,
 use Rattle.bus.specs.declared.frame.Frame.{Frame}
 use Rattle.bus.specs.declared.refusal.Refusal.{Refusal}
 use Rattle.house.specs.declared.call.Call.{Call}
-use Rattle.house.specs.Turns.{Bus, turn, with_places, copied_in}
+use Rattle.house.specs.Turns.{Bus, turn, decided, with_places, copied_in}
 use Rattle.runs.specs.declared.entry.Reply.{Reply}
 use Rattle.runs.specs.declared.entry.Reply.TheVariants.{Accepted, Counts, Cleared, Byte}
 use Rattle.runs.specs.Replays.{answer_of, shown_reply}
@@ -13,7 +13,7 @@ use Rattle.benchlog.specs.declared.kind.ItemKind.{ItemKind}
 use Rattle.benchlog.specs.declared.kind.ItemKind.TheVariants.{Put, Second, Push, Step, Clear}
 use Rattle.benchlog.specs.Items.{LogItem, bench_places, call_of, recorded}
 use Rattle.benchlog.specs.Bytes.{answer_bytes, served_bytes}
-use Rattle.benchlog.specs.Benches.{item_bytes}
+use Rattle.benchlog.specs.Benches.{item_bytes, RefusedItems}
 
 reply_bytes : (r : Reply) (fs : List Frame) → answer_bytes (answer_of r) fs ≡ served_bytes fs
 reply_bytes Accepted fs = refl
@@ -41,3 +41,9 @@ item_served x i n c r reply old new e f g a b =
     ∙ ap (λ z. answer_bytes (shown_reply z) fs) (sym g)
     ∙ ap (λ z. answer_bytes z fs) a
     ∙ ap (λ k. answer_bytes (turn x.seats x.pending k).answer (turn x.seats x.pending k).sent) same
+
+-- a call that is refused does nothing
+pub refused_items : RefusedItems
+refused_items x i r e =
+    let c = recorded i in
+    (ap (λ o. record { seats = (decided o x.seats x.pending c).seats; pending = (decided o x.seats x.pending c).pending }) e, ap (λ o. answer_bytes (decided o x.seats x.pending c).answer (decided o x.seats x.pending c).sent) e)

@@ -1,14 +1,16 @@
 -- What a bench does with an item and with a log. Assumes nothing.
-use Rattle.std.specs.Prelude.{◌≡◌, ℕ, ◌≤◌, ◌<◌, List, ◌++◌, [], ◌∷◌, map, length, take, Option, Ok, Err, Result, MatchResult}
+use Rattle.std.specs.Prelude.{◌≡◌, ℕ, ◌≤◌, ◌<◌, List, ◌++◌, [], ◌∷◌, map, length, take, Some, Option, Ok, Err, Result, MatchResult}
 use Rattle.std.specs.List.{flat_map}
 use Rattle.std.specs.Io.KnownBytes.{Appends}
 use Rattle.bus.specs.declared.refusal.Refusal.{Refusal}
 use Rattle.bus.specs.declared.refusal.Refusal.TheVariants.{ShortBuffer}
+use Rattle.bus.specs.Refusals.{number}
 use Rattle.station.specs.Kinds.{Seat}
 use Rattle.station.specs.declared.station.Station.{Ghosts}
 use Rattle.house.specs.declared.call.Call.{Call}
+use Rattle.house.specs.Faults.{first_refusal}
 use Rattle.house.specs.Houses.{bus_of}
-use Rattle.house.specs.Turns.{Bus, called, copied_in}
+use Rattle.house.specs.Turns.{Bus, called, checks, copied_in}
 use Rattle.runs.specs.Runs.{Entry, entry, Run}
 use Rattle.benchlog.specs.declared.bench.Bench.{Bench}
 use Rattle.benchlog.specs.Items.{LogItem, Found, recorded}
@@ -22,6 +24,12 @@ entry_bytes e = answer_bytes e.answer e.sent
 -- the answer to an item, on a bus
 abbrev pub item_bytes : Bus → LogItem → List ℕ
 item_bytes x i = entry_bytes (entry x (recorded i))
+
+-- an item whose call a number refuses changes nothing, and the answer is just 0x82 and this number
+abbrev pub RefusedItems : Type 0
+RefusedItems =
+    (x : Bus) (i : LogItem) (r : Refusal) → first_refusal (checks x.seats x.pending (recorded i)) ≡ Some r →
+    (called (recorded i) x ≡ x) × (item_bytes x i ≡ 0x82 ∷ number r ∷ [])
 
 -- the bus after what was found in a log: an item's call was made, and a fault does nothing
 abbrev pub after_found : Found → Bus → Bus

@@ -6,7 +6,7 @@ ghost use Rattle.house.specs.Turns.{called, copied_in};
 ghost use Rattle.runs.specs.Runs.{quiet};
 ghost use Rattle.benchlog.specs.Items.{shown_item, recorded};
 ghost use Rattle.benchlog.specs.Bytes.{served_bytes};
-ghost use Rattle.benchlog.specs.Benches.{bench_bus, item_bytes, AnswersItem};
+ghost use Rattle.benchlog.specs.Benches.{bench_bus, item_bytes, AnswersItem, RefusedItems};
 
 use crate::bench::Bench;
 use crate::item::Item;
@@ -73,12 +73,21 @@ impl<S: Station> Bench<S> {
 
     // Answers an item at the front of a buffer with 360 places or more, and says by how many bytes: the frames sent, each
     // after 0x81, and then 0x80, or 0x82 and the number of a refusal.
+    #[tactic(auto, using(crate::proofs::Served::refused_items))]
     pub fn answer(&mut self, item: &Item<'_>, buffer: &mut [u8]) -> Result<usize, Refusal>
-        ensures { AnswersItem S.seats (shown_item item.now) result self.old self.new buffer.old buffer.new }
+        ensures refusals { RefusedItems }
+        ensures answer { AnswersItem S.seats (shown_item item.now) result self.old self.new buffer.old buffer.new }
     {
         if buffer.len() < 360 {
             return Err(Refusal::ShortBuffer);
         }
         Ok(self.write_answer(item, buffer))
+    }
+
+    // The house, for questions to it.
+    pub fn house(&self) -> &House<S>
+        ensures { result.now ≡ self.now.house }
+    {
+        &self.house
     }
 }
