@@ -46,7 +46,7 @@ fn main(rt: HostRuntime) -> anyhow::Result<()> {
 
 // Runs the log; what memory is needed is taken before.
 fn run(rt: &HostRuntime, form: Form) -> anyhow::Result<()> {
-    let log = read_log(rt, form)?;
+    let log = read_log(rt.alloc(), rt.reader(), form)?;
     if log.len() == LIMIT {
         eprintln!(rt; "bench: read {LIMIT} bytes, which is all that it takes; what follows was not read")?;
     }

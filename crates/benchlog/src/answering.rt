@@ -1,6 +1,7 @@
 // How a bench answers an item.
 ghost use Rattle.std.specs.Prelude.{◌≡◌, ◌+◌, ◌*◌, ◌≤◌, [], ◌∷◌, length, IfOk, IfErr};
 ghost use Rattle.bus.specs.Refusals.{number};
+ghost use Rattle.station.specs.Seats.{first_byte};
 ghost use Rattle.house.specs.Houses.{station_of};
 ghost use Rattle.house.specs.Turns.{called, copied_in};
 ghost use Rattle.runs.specs.Runs.{quiet};
@@ -84,10 +85,10 @@ impl<S: Station> Bench<S> {
         Ok(self.write_answer(item, buffer))
     }
 
-    // The house, for questions to it.
-    pub fn house(&self) -> &House<S>
-        ensures { result.now ≡ self.now.house }
+    // The byte at a place of the record of the first seat at an address, if there is one.
+    pub fn record(&self, address: u8, place: usize) -> Option<u8>
+        ensures { result ≡ first_byte address place (bench_bus S.seats self.now).seats }
     {
-        &self.house
+        self.house.record(address, place)
     }
 }
