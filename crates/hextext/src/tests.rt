@@ -1,5 +1,7 @@
 // Texts with what they say, and bytes with their lines, worked out by hand.
 use crate::{HexLines, Position, ReadError, read, write_line};
+use std::cell::Cell;
+use std::io;
 use std::io::Write;
 use std::test::Fail;
 
@@ -104,5 +106,28 @@ fn lines_read_back(rt: HostRuntime) -> Result<(), Fail> {
     assert_eq!(rt; text.as_slice(), b"03 10\n\nC7\n".as_slice());
     let bytes = read(rt.alloc(), text.as_slice())?;
     assert_eq!(rt; bytes.as_slice(), b"\x03\x10\xC7".as_slice());
+    Ok(())
+}
+
+// Notes that it was flushed.
+#[derive(Drop)]
+struct Flushed<'a>(&'a Cell<bool>);
+
+impl Write for Flushed<'_> {
+    fn write(&mut self, buf: &[u8]) -> io::Result<usize> {
+        Ok(buf.len())
+    }
+
+    fn flush(&mut self) -> io::Result<()> {
+        self.0.set(true);
+        Ok(())
+    }
+}
+
+#[test]
+fn flushing(rt: HostRuntime) -> Result<(), Fail> {
+    let flushed = Cell::new(false);
+    HexLines::new(Flushed(&flushed)).flush()?;
+    assert!(rt; flushed.get());
     Ok(())
 }
