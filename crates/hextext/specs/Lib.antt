@@ -1,0 +1,5 @@
+pub mod Digits
+pub mod Reading
+pub mod Messages
+pub mod Lines
+pub mod RoundTrip

@@ -1,0 +1,31 @@
+// Where a text is at fault, and how.
+ghost use Rattle.std.specs.Prelude.{◌≡◌};
+ghost use Rattle.hextext.specs.declared.error.ReadError.TheVariants.{NoMemory};
+
+use std::alloc::AllocFailed;
+
+// A place in a text. Lines end at line breaks and columns count bytes; both count from 1.
+#[derive(Clone, Copy, Debug, PartialEq, Eq)]
+pub struct Position {
+    pub line: usize,
+    pub column: usize,
+}
+
+// Why a text could not be read.
+#[derive(Clone, Copy, Debug, PartialEq, Eq)]
+pub enum ReadError {
+    // What stands here is no digit, where one should be.
+    BadDigit(Position),
+    // The digit here is the first of a byte, and the second does not follow it.
+    LoneDigit(Position),
+    // There was no memory for the bytes.
+    NoMemory,
+}
+
+impl<T: Drop> From<AllocFailed<T>> for ReadError {
+    ghost from_gives = { λ _ e. e ≡ NoMemory };
+
+    fn from(_failed: AllocFailed<T>) -> Self {
+        ReadError::NoMemory
+    }
+}

@@ -1,0 +1,17 @@
+// Bytes as hexadecimal text: a reader of such text, and a writer of lines of it.
+#![tactic(auto)]
+
+mod digits;
+mod error;
+mod hex_lines;
+mod messages;
+mod mode;
+mod reading;
+#[cfg(test)]
+mod tests;
+mod writing;
+
+pub use error::{Position, ReadError};
+pub use hex_lines::HexLines;
+pub use reading::read;
+pub use writing::write_line;
