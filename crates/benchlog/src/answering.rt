@@ -35,7 +35,7 @@ fn write_served(sent: &[Frame], buffer: &mut [u8]) -> usize
 
 // Writes the answer to an item that was refused.
 fn write_refused(refusal: Refusal, buffer: &mut [u8]) -> usize
-    requires { 2 ≤ length buffer.old }
+    requires { 360 ≤ length buffer.old }
     ensures count { result ≡ 2 }
     ensures bytes { buffer.new ≡ copied_in (0x82 ∷ number refusal ∷ []) buffer.old }
 {
