@@ -9,14 +9,15 @@ ghost use Rattle.std.proofs.Common.{rules};
 
 use crate::action::Action;
 use crate::channel::Channel;
+use crate::pairs::{CELLS, Pairs};
 use crate::per_channel::{BITS, PerChannel};
 use crate::query::Query;
-use crate::relay::{CELLS, Relay, RelaySetup};
+use crate::relay::{Relay, RelaySetup};
 use crate::reports::send_lamps;
 use crate::tables::pair_cell;
 use crate::timers::Timers;
 use bus::{Frame, Outbox};
-use module::{Memory, Module, ModuleKind};
+use module::{Module, ModuleKind};
 use station::Edge;
 
 // Which channels a command names.
@@ -135,25 +136,25 @@ impl PerChannel<Channel> {
 impl Relay {
     // The pair that each channel obeys on a button status.
     fn pairs(&self, frame: &Frame) -> PerChannel<Option<u8>>
-        ensures { result ≡ pairs (memory_cells self.now.memory) frame.now }
+        ensures { result ≡ pairs (memory_cells self.now.pairs.memory) frame.now }
     {
         let query = Query {
             address: frame.address,
             buttons: Some(frame.bytes[1]),
         };
-        PerChannel::from_fn(|c| self.first_pair(c, query))
+        self.pairs.first_pairs(query)
     }
 
     // The button bits of a pair of channel c.
     fn bits(&self, c: u8, pair: Option<u8>) -> Option<u8>
-        ensures { result ≡ pair_bits (memory_cells self.now.memory) c pair }
+        ensures { result ≡ pair_bits (memory_cells self.now.pairs.memory) c pair }
     {
-        pair.map(|p| self.memory.read(pair_cell(c, p) + 1))
+        pair.map(|p| self.pairs.memory.read(pair_cell(c, p) + 1))
     }
 
     // The button bits of each channel's pair.
     fn all_bits(&self, pairs: PerChannel<Option<u8>>) -> PerChannel<Option<u8>>
-        ensures { result ≡ all_bits (memory_cells self.now.memory) pairs }
+        ensures { result ≡ all_bits (memory_cells self.now.pairs.memory) pairs }
     {
         PerChannel::from_fn(|c| c)
             .zip(pairs)
@@ -172,7 +173,7 @@ impl Module for Relay {
     ghost sized = { Prim.search rules };
 
     fn command(&mut self, own: u8, frame: &Frame, out: &mut Outbox) {
-        self.memory.obey(own, frame, out);
+        self.pairs.obey(own, frame, out);
         let was = self.channels.made();
         self.channels
             .carry_out(commanded(frame), named_channels(frame));
@@ -204,7 +205,7 @@ impl Module for Relay {
     fn push(&mut self, _own: u8, _channel: u8, _edge: Edge, _out: &mut Outbox) {}
 
     fn names(&self, _own: u8, address: u8) -> bool {
-        self.names_address(address)
+        self.pairs.names(address)
     }
 
     fn memory(&self) -> usize {
@@ -216,7 +217,7 @@ impl Module for Relay {
     }
 
     fn byte(&self, place: usize) -> Option<u8> {
-        self.memory.byte(&self.channels.bytes(), place)
+        self.pairs.memory.byte(&self.channels.bytes(), place)
     }
 }
 
@@ -235,7 +236,7 @@ impl ModuleKind for Relay {
     {
         Relay {
             setup,
-            memory: Memory::new(),
+            pairs: Pairs::new(),
             channels: PerChannel::from_fn(|_| Channel::Open),
         }
     }
