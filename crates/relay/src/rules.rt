@@ -3,6 +3,9 @@ ghost use Rattle.std.specs.Prelude.{◌≡◌, ◌<◌, replicate};
 ghost use Rattle.bus.specs.Outboxes.{Room, Sends};
 ghost use Rattle.module.specs.Cells.{memory_cells};
 ghost use Rattle.relay.specs.Relays.{state_of, named_channels, start_action, commanded, carried, carried_out, answer, pairs, by_pair, by_pairs, pair_bits, all_bits, all_ticked, design, content};
+ghost use Rattle.relay.specs.Channels.{each, some};
+ghost use Rattle.relay.specs.Contacts.{is_running};
+ghost use Rattle.relay.specs.Reports.{made, report};
 ghost use Rattle.relay.specs.Shown.{shown, all_shown};
 ghost use Rattle.relay.specs.Orderly.{relay_orderly};
 ghost use Rattle.std.proofs.Common.{rules};
@@ -131,6 +134,27 @@ impl PerChannel<Channel> {
             channel
         });
     }
+
+    // Whether some channel's time runs.
+    fn is_any_running(&self) -> bool
+        ensures { result ≡ some (each is_running (all_shown self.now)) }
+    {
+        self.map(|channel| channel.is_running()).any()
+    }
+
+    // A second passes, and what it changes is told: nothing, where no time runs.
+    #[tactic(auto, using(bus::proofs::Outboxes::sends_none, crate::proofs::Unchanged::not_ticked, crate::proofs::Unchanged::not_ticked_unreported))]
+    fn second(&mut self, own: u8, out: &mut Outbox)
+        requires { Room out.old 5 }
+        ensures after { all_shown self.new ≡ all_ticked (all_shown self.old) }
+        ensures sent { Sends out.old out.new (report own (made (all_shown self.old)) (all_ticked (all_shown self.old))) }
+    {
+        if self.is_any_running() {
+            let was = self.made();
+            self.tick();
+            self.report(own, was, out);
+        }
+    }
 }
 
 impl Relay {
@@ -183,6 +207,10 @@ impl Module for Relay {
     fn broadcast(&mut self, _own: u8, _frame: &Frame, _out: &mut Outbox) {}
 
     fn status(&mut self, own: u8, frame: &Frame, out: &mut Outbox) {
+        if frame.bytes[1] == 0 {
+            // no button was just pressed
+            return;
+        }
         let pairs = self.pairs(frame);
         let was = self.channels.made();
         self.channels.obey_pairs(self.setup.timers, pairs);
@@ -197,9 +225,7 @@ impl Module for Relay {
     }
 
     fn second(&mut self, own: u8, out: &mut Outbox) {
-        let was = self.channels.made();
-        self.channels.tick();
-        self.channels.report(own, was, out);
+        self.channels.second(own, out);
     }
 
     fn push(&mut self, _own: u8, _channel: u8, _edge: Edge, _out: &mut Outbox) {}
