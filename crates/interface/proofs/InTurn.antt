@@ -17,6 +17,12 @@ module _ {A : Type 0} (act : ℕ → A → A) where
   in_turn_none i zero x h = refl
   in_turn_none i (suc n) x h = absurd (omega arith)
 
+  -- acts that change nothing
+  pub in_turn_idle : ((k : ℕ) → (x : A) → act k x ≡ x) → (i n : ℕ) (x : A) → in_turn act i n x ≡ x
+  unfolding in_turn
+  in_turn_idle h i zero x = refl
+  in_turn_idle h i (suc n) x = ap (in_turn act (suc i) n) (h i x) ∙ in_turn_idle h (suc i) n x
+
 -- a row of acts over a list, one step
 pub fold_here : {A : Type 0} (step : A → ℕ → A) (x : A) (ks : List ℕ) (i : ℕ) → i < length ks → fold step x (drop i ks) ≡ fold step (step x (get_or ks i 0)) (drop (i + 1) ks)
 fold_here step x ks i h = rw (add-one, drop-cons ks i 0)

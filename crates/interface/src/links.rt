@@ -5,6 +5,7 @@ ghost use Rattle.station.specs.Rules.{stored};
 ghost use Rattle.module.specs.Bits.{has_bit};
 ghost use Rattle.module.specs.Cells.{memory_cells};
 ghost use Rattle.module.specs.Memories.{memory_sent};
+ghost use Rattle.module.specs.Numbers.{row_numbers};
 ghost use Rattle.module.specs.Searches.{seatable};
 ghost use Rattle.bus.specs.Frames.{byte};
 ghost use Rattle.interface.specs.Shown.{all_held};
@@ -12,7 +13,7 @@ ghost use Rattle.interface.specs.Links.{link_at, bears, named, links_in_use, ask
 
 use crate::holds::Holds;
 use crate::link::Link;
-use crate::records::{CELLS, Records};
+use crate::records::{CELLS, LINKS, Records};
 use bus::{Frame, Outbox};
 use module::{Memory, Rows, is_seatable, is_write};
 use timing::{Locking, hold_of_code};
@@ -84,13 +85,21 @@ fn obey_in_use(memory: &Memory<CELLS>, used: &[u8], frame: &Frame, channels: u8,
     }
 }
 
+// The records in use. Not inlined: the place of the result would be cleared on each command, also where no list is made.
+#[inline(never)]
+fn in_use(memory: &Memory<CELLS>) -> Rows<LINKS>
+    ensures { row_numbers result ≡ links_in_use (memory_cells memory.now) }
+{
+    Rows::in_use(memory, 0x0100, 5)
+}
+
 impl Records {
     // Fresh cells: no record is in use.
     pub(crate) fn new() -> Self
         ensures { memory_cells result.memory ≡ replicate 1024 255 }
     {
         let memory = Memory::new();
-        let used = Rows::in_use(&memory, 0x0100, 5);
+        let used = in_use(&memory);
         Records { memory, used }
     }
 
@@ -103,7 +112,7 @@ impl Records {
     {
         self.memory.obey(own, frame, out);
         if is_write(frame) {
-            self.used = Rows::in_use(&self.memory, 0x0100, 5);
+            self.used = in_use(&self.memory);
         }
     }
 
@@ -140,10 +149,14 @@ impl Records {
         }
     }
 
-    // Lets every record act that matches, one after the other.
+    // Lets every record act that matches, one after the other: none, where no button was just pressed.
+    #[tactic(auto, using(crate::proofs::InUse::unasked_idle))]
     pub(crate) fn obey_links(&self, frame: &Frame, channels: u8, holds: &mut Holds)
         ensures { all_held holds.new ≡ by_records channels (memory_cells self.now.memory) frame.now (all_held holds.old) }
     {
+        if frame.bytes[1] == 0 {
+            return;
+        }
         if is_seatable(frame.address) {
             obey_in_use(&self.memory, self.used.numbers(), frame, channels, holds);
         } else {

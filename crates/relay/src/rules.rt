@@ -103,6 +103,21 @@ impl PerChannel<Channel> {
         }
     }
 
+    // Obeys a command, and tells its answer; what is no command for channels does nothing here, as most frames.
+    fn command(&mut self, own: u8, frame: &Frame, out: &mut Outbox)
+        requires { Room out.old 5 }
+        ensures after { all_shown self.new ≡ carried_out (commanded frame.now) (named_channels frame.now) (all_shown self.old) }
+        ensures sent { Sends out.old out.new (answer own frame.now (made (all_shown self.old)) (carried_out (commanded frame.now) (named_channels frame.now) (all_shown self.old))) }
+    {
+        let action = commanded(frame);
+        if action.is_none() && !frame.is_command(0xFA, 2) {
+            return;
+        }
+        let was = self.made();
+        self.carry_out(action, named_channels(frame));
+        self.answer(own, frame, was, out);
+    }
+
     // Each channel obeys its pair.
     fn obey_pairs(&mut self, timers: PerChannel<Timers>, pairs: PerChannel<Option<u8>>)
         ensures { all_shown self.new ≡ by_pairs timers pairs (all_shown self.old) }
@@ -198,10 +213,7 @@ impl Module for Relay {
 
     fn command(&mut self, own: u8, frame: &Frame, out: &mut Outbox) {
         self.pairs.obey(own, frame, out);
-        let was = self.channels.made();
-        self.channels
-            .carry_out(commanded(frame), named_channels(frame));
-        self.channels.answer(own, frame, was, out);
+        self.channels.command(own, frame, out);
     }
 
     fn broadcast(&mut self, _own: u8, _frame: &Frame, _out: &mut Outbox) {}

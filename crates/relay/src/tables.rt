@@ -39,7 +39,9 @@ fn in_use(memory: &Memory<CELLS>, c: u8) -> Rows<PAIRS>
     Rows::in_use(memory, 256 * u16::from(c), 2)
 }
 
-// The pairs in use of all channels.
+// The pairs in use of all channels. Not inlined: the place of the result would be cleared on each command, also where
+// no list is made.
+#[inline(never)]
 fn all_in_use(memory: &Memory<CELLS>) -> PerChannel<Rows<PAIRS>>
     ensures { each row_numbers result ≡ numbered (pairs_in_use (memory_cells memory.now)) }
 {
@@ -74,12 +76,13 @@ impl Pairs {
         ensures { result ≡ matches (memory_cells self.now.memory) c query p }
     {
         let cell = pair_cell(c, p);
-        p / 15 != 3
-            && self.memory.read(cell) == query.address
+        self.memory.read(cell) == query.address
+            && p / 15 != 3
             && has_common(query.buttons, self.memory.read(cell + 1))
     }
 
-    // The first pair of channel c that fits a query, of all pairs.
+    // The first pair of channel c that fits a query, of all pairs. Not inlined, since mostly those in use will do.
+    #[inline(never)]
     fn first_of_all(&self, c: u8, query: Query) -> Option<u8>
         ensures { result ≡ first_pair (memory_cells self.now.memory) c query }
     {
