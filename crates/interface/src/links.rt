@@ -85,12 +85,19 @@ fn obey_in_use(memory: &Memory<CELLS>, used: &[u8], frame: &Frame, channels: u8,
     }
 }
 
-// The records in use. Not inlined: the place of the result would be cleared on each command, also where no list is made.
-#[inline(never)]
+// The records in use.
 fn in_use(memory: &Memory<CELLS>) -> Rows<LINKS>
     ensures { row_numbers result ≡ links_in_use (memory_cells memory.now) }
 {
     Rows::in_use(memory, 0x0100, 5)
+}
+
+// Makes the list anew. Not inlined: the place of the new one would be cleared on each command, also where none is made.
+#[inline(never)]
+fn remake(memory: &Memory<CELLS>, used: &mut Rows<LINKS>)
+    ensures { row_numbers used.new ≡ links_in_use (memory_cells memory.now) }
+{
+    *used = in_use(memory);
 }
 
 impl Records {
@@ -112,7 +119,7 @@ impl Records {
     {
         self.memory.obey(own, frame, out);
         if is_write(frame) {
-            self.used = in_use(&self.memory);
+            remake(&self.memory, &mut self.used);
         }
     }
 

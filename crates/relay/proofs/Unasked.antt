@@ -1,5 +1,5 @@
 -- A button status with no button just pressed changes nothing. Assumes nothing.
-use Rattle.std.proofs.Common.{◌≡◌, ℕ, ◌+◌, ◌/◌, false, not, ◌&&◌, eqb, List, [], ◌++◌, None, Some, Option, get_or, ap, ◌∙◌}
+use Rattle.std.proofs.Common.{◌≡◌, ℕ, ◌+◌, ◌/◌, false, not, ◌&&◌, eqb, List, [], ◌++◌, None, Option, get_or, ap, ◌∙◌}
 use Rattle.std.proofs.Math.Bool.{and-false}
 use Rattle.bus.specs.declared.frame.Frame.{Frame}
 use Rattle.bus.specs.Frames.{byte}
@@ -12,7 +12,7 @@ use Rattle.relay.specs.Channels.{numbered}
 use Rattle.relay.specs.Contacts.{Contact}
 use Rattle.relay.specs.Relays.{query, pairs, by_pairs, all_bits}
 use Rattle.relay.specs.Reports.{made, report, lamps}
-use Rattle.relay.specs.Tables.{pair_cell, matches, first_pair}
+use Rattle.relay.specs.Tables.{pair_cell, matches}
 use Rattle.relay.proofs.Unchanged.{same_unreported}
 
 no_match : (cells : List ℕ) (c : ℕ) (f : Frame) → byte f 1 ≡ 0 → (p : ℕ) → matches cells c (query f) p ≡ false

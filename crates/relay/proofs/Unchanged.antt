@@ -1,7 +1,6 @@
 -- Where nothing changes, nothing is told. Assumes nothing.
-use Rattle.std.proofs.Common.{◌≡◌, ℕ, ◌+◌, Bool, true, false, not, ◌&&◌, ◌||◌, eqb, cond, List, [], ◌++◌, None, Some, Option, sym, refl, ap, ◌∙◌}
+use Rattle.std.proofs.Common.{◌≡◌, ℕ, ◌+◌, Bool, true, false, ◌&&◌, ◌||◌, eqb, [], ◌++◌, refl, ap, ◌∙◌}
 use Rattle.std.proofs.lemmas.Bool.{cond-true, or_parts, true≢false}
-use Rattle.bus.specs.declared.frame.Frame.{Frame}
 use Rattle.relay.specs.declared.per_channel.PerChannel.{PerChannel}
 use Rattle.relay.specs.Channels.{each, some}
 use Rattle.relay.specs.Contacts.{Contact, opened, closed, running, is_running, ticked}

@@ -39,13 +39,19 @@ fn in_use(memory: &Memory<CELLS>, c: u8) -> Rows<PAIRS>
     Rows::in_use(memory, 256 * u16::from(c), 2)
 }
 
-// The pairs in use of all channels. Not inlined: the place of the result would be cleared on each command, also where
-// no list is made.
-#[inline(never)]
+// The pairs in use of all channels.
 fn all_in_use(memory: &Memory<CELLS>) -> PerChannel<Rows<PAIRS>>
     ensures { each row_numbers result ≡ numbered (pairs_in_use (memory_cells memory.now)) }
 {
     PerChannel::from_fn(|c| in_use(memory, c))
+}
+
+// Makes the lists anew. Not inlined: the place of the new ones would be cleared on each command, also where none are made.
+#[inline(never)]
+fn remake(memory: &Memory<CELLS>, used: &mut PerChannel<Rows<PAIRS>>)
+    ensures { each row_numbers used.new ≡ numbered (pairs_in_use (memory_cells memory.now)) }
+{
+    *used = all_in_use(memory);
 }
 
 impl Pairs {
@@ -67,7 +73,7 @@ impl Pairs {
     {
         self.memory.obey(own, frame, out);
         if is_write(frame) {
-            self.used = all_in_use(&self.memory);
+            remake(&self.memory, &mut self.used);
         }
     }
 
