@@ -1,5 +1,6 @@
 -- The steps of a row of acts. Assumes nothing.
-use Rattle.std.proofs.Common.{◌≡◌, ℕ, zero, suc, ◌+◌, ◌-◌, ◌<◌, refl, ap, ◌∙◌, arith}
+use Rattle.std.proofs.Common.{◌≡◌, ℕ, zero, suc, ◌+◌, ◌-◌, ◌<◌, Bool, true, false, cond, List, ◌∷◌, length, get_or, drop, fold, add-one, drop-cons, sym, refl, ap, ◌∙◌, arith}
+use Rattle.module.specs.Searches.{passing}
 use Rattle.interface.specs.Links.{in_turn}
 
 module _ {A : Type 0} (act : ℕ → A → A) where
@@ -15,3 +16,26 @@ module _ {A : Type 0} (act : ℕ → A → A) where
   unfolding in_turn
   in_turn_none i zero x h = refl
   in_turn_none i (suc n) x h = absurd (omega arith)
+
+  -- acts that change nothing
+  pub in_turn_idle : ((k : ℕ) → (x : A) → act k x ≡ x) → (i n : ℕ) (x : A) → in_turn act i n x ≡ x
+  unfolding in_turn
+  in_turn_idle h i zero x = refl
+  in_turn_idle h i (suc n) x = ap (in_turn act (suc i) n) (h i x) ∙ in_turn_idle h (suc i) n x
+
+-- a row of acts over a list, one step
+pub fold_here : {A : Type 0} (step : A → ℕ → A) (x : A) (ks : List ℕ) (i : ℕ) → i < length ks → fold step x (drop i ks) ≡ fold step (step x (get_or ks i 0)) (drop (i + 1) ks)
+fold_here step x ks i h = rw (add-one, drop-cons ks i 0)
+
+-- numbers whose act changes nothing can be left out
+module _ {A : Type 0} (act : ℕ → A → A) (used : ℕ → Bool) (idle : (k : ℕ) → used k ≡ false → (x : A) → act k x ≡ x) where
+  pub fold-passing : (i n : ℕ) (x : A) → fold (λ y k. act k y) x (passing used i n) ≡ in_turn act i n x
+  unfolding passing in_turn
+  fold-passing i zero x = refl
+  fold-passing i (suc n) x =
+      let rest : List ℕ = passing used (suc i) n in
+      by i rest x (used i) (idle i) ∙ fold-passing (suc i) n (act i x)
+    where
+      by : (i : ℕ) (rest : List ℕ) (x : A) (u : Bool) → (u ≡ false → (x : A) → act i x ≡ x) → fold (λ y k. act k y) x (cond u (i ∷ rest) rest) ≡ fold (λ y k. act k y) (act i x) rest
+      by i rest x true h = refl
+      by i rest x false h = ap (λ y. fold (λ y k. act k y) y rest) (sym (h refl x))

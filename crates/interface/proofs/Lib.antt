@@ -1,3 +1,4 @@
 pub mod InTurn
 pub mod Decoded
 pub mod Orderly
+pub mod InUse

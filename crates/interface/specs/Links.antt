@@ -3,7 +3,7 @@ use Rattle.std.specs.Prelude.{ℕ, zero, suc, ◌+◌, ◌*◌, Bool, cond, ◌&
 use Rattle.bus.specs.declared.frame.Frame.{Frame}
 use Rattle.bus.specs.Frames.{byte}
 use Rattle.module.specs.Bits.{has_bit}
-use Rattle.module.specs.Searches.{first}
+use Rattle.module.specs.Searches.{first, rows_in_use}
 use Rattle.timing.specs.declared.locking.Locking.{Locking}
 use Rattle.timing.specs.declared.locking.Locking.TheVariants.{Lock, Toggle, Unlock}
 use Rattle.timing.specs.TimeCodes.{hold_of_code}
@@ -26,6 +26,10 @@ bears cells a k = link_byte cells k 0 == a
 -- one of the 51 records does
 abbrev pub named : List ℕ → ℕ → Bool
 named cells a = is_some (first (bears cells a) 0 51)
+
+-- which of the records bear the address of a seat
+abbrev pub links_in_use : List ℕ → List ℕ
+links_in_use cells = rows_in_use cells 0x0100 5 51
 
 -- the record acts on a button status: it bears the sender's address and the bit of a button just pressed
 abbrev pub matches : List ℕ → Frame → ℕ → Bool

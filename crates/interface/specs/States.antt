@@ -44,4 +44,4 @@ state_of i = record { lamps = i.lamps; pressed = i.buttons.pressed; holds = all_
 
 -- the cells of its memory
 abbrev pub cells_of : Interface → List ℕ
-cells_of i = memory_cells i.memory
+cells_of i = memory_cells i.records.memory

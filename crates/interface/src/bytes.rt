@@ -63,6 +63,6 @@ impl Interface {
     pub fn byte(&self, place: usize) -> Option<u8>
         ensures { result ≡ nth place (cells_of self.now ++ encoded (state_of self.now)) }
     {
-        self.memory.byte(&self.state(), place)
+        self.records.memory.byte(&self.state(), place)
     }
 }

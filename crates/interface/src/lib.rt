@@ -7,11 +7,13 @@ mod interface;
 mod link;
 mod links;
 mod locks;
+mod records;
 mod rules;
 mod setup;
 mod variant;
 
 pub use holds::Holds;
-pub use interface::{CELLS, Interface};
+pub use interface::Interface;
+pub use records::CELLS;
 pub use setup::{InterfaceSetup, Serial};
 pub use variant::Variant;

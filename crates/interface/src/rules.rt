@@ -9,11 +9,11 @@ ghost use Rattle.interface.specs.States.{state_of, cells_of};
 
 use crate::holds::Holds;
 use crate::interface::Interface;
-use crate::links::{names, obey_links};
+use crate::records::Records;
 use crate::setup::{InterfaceSetup, Serial};
 use crate::variant::Variant;
 use bus::{Frame, Outbox};
-use module::{Buttons, Lamps, Memory};
+use module::{Buttons, Lamps};
 use station::Edge;
 use timing::{Clock, Locking};
 
@@ -77,7 +77,7 @@ impl Interface {
         ensures state { state_of result ≡ record { lamps = record { on = 0; slow = 0; fast = 0 }; pressed = 0; holds = replicate 8 0; clock = midnight } }
     {
         Interface {
-            memory: Memory::new(),
+            records: Records::new(),
             lamps: Lamps::new(),
             buttons: Buttons::new(),
             holds: Holds::new(),
@@ -113,7 +113,7 @@ impl Interface {
         ensures state { state_of self.new ≡ after_command variant (state_of self.old) frame.now }
         ensures sent { Sends out.old out.new (command_sent variant setup own (cells_of self.old) (state_of self.old) frame.now) }
     {
-        self.memory.obey(own, frame, out);
+        self.records.obey(own, frame, out);
         self.answer_status(own, frame, out);
         answer_type(variant, setup, own, frame, out);
         answer_clock(&self.clock, own, frame, out);
@@ -139,7 +139,8 @@ impl Interface {
         ensures cells { cells_of self.new ≡ cells_of self.old }
         ensures state { state_of self.new ≡ after_status variant (cells_of self.old) (state_of self.old) frame.now }
     {
-        obey_links(&self.memory, frame, variant.channels, &mut self.holds);
+        self.records
+            .obey_links(frame, variant.channels, &mut self.holds);
     }
 
     // A second that passes.
@@ -167,6 +168,6 @@ impl Interface {
     pub fn names(&self, address: u8) -> bool
         ensures { result ≡ named (cells_of self.now) address }
     {
-        names(&self.memory, address)
+        self.records.names(address)
     }
 }

@@ -4,7 +4,7 @@ use Rattle.std.specs.Int.{bit_at, w8}
 use lib.Bits.{bit_and, bit_or}
 use Rattle.std.proofs.lemmas.Bool.{eq-eqb, ne_eqb, cases_eq}
 use Rattle.std.proofs.lemmas.Nat.{pow_pos}
-use Rattle.std.proofs.lemmas.Nat.Bits.{and_pow, bit_at-lt, bit_at_and, bit_at_or, bit_at_not, bit_at-pow_same, bit_at-pow_other}
+use Rattle.std.proofs.lemmas.Nat.Bits.{and_pow, and_high, bit_at-lt, bit_at_and, bit_at_or, bit_at_not, bit_at-pow_same, bit_at-pow_other}
 use Rattle.module.specs.Bits.{has_bit}
 
 -- a truth value as a number
@@ -55,3 +55,7 @@ has_own i = at_place (2 ^ i) i true (bit_at-pow_same i)
 
 pub has_no_other : (k i : ℕ) → (i ≡ k → ⊥) → has_bit (2 ^ k) (2 ^ i) ≡ false
 has_no_other k i apart = at_place (2 ^ k) i false (bit_at-pow_other k i apart)
+
+-- no bit is one of none
+pub has_none : (bits : ℕ) → has_bit bits 0 ≡ false
+has_none bits = ap not (eq-eqb (bit_and bits 0) 0 (omega (arith, and_high bits 0 0)))

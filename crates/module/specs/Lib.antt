@@ -6,3 +6,4 @@ pub mod LampBytes
 pub mod Pushes
 pub mod Searches
 pub mod Orderly
+pub mod Numbers

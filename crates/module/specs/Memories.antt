@@ -1,8 +1,12 @@
 -- What a memory command is answered with. Assumes nothing.
-use Rattle.std.specs.Prelude.{ℕ, ◌+◌, cond, ◌||◌, List, [], ◌∷◌, length, nat_le, slice_index}
+use Rattle.std.specs.Prelude.{ℕ, ◌+◌, Bool, cond, ◌||◌, List, [], ◌∷◌, length, nat_le, slice_index}
 use Rattle.bus.specs.declared.frame.Frame.{Frame}
 use Rattle.bus.specs.Frames.{byte, is_command, message}
 use Rattle.station.specs.Rules.{cell, stored}
+
+-- the frame is a command that writes cells
+abbrev pub writes : Frame → Bool
+writes f = is_command 0xFC 4 f || is_command 0xCA 7 f
 
 -- one cell of a memory, by 0xFE with its number
 abbrev pub cell_frame : ℕ → Frame → List ℕ → Frame

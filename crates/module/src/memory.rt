@@ -4,7 +4,7 @@ ghost use Rattle.bus.specs.Frames.{byte};
 ghost use Rattle.bus.specs.Outboxes.{Room, Sends};
 ghost use Rattle.station.specs.Rules.{cell as cell_number, put, stored};
 ghost use Rattle.station.specs.Seats.{nth};
-ghost use Rattle.module.specs.Memories.{cell_frame, block_frame, memory_sent};
+ghost use Rattle.module.specs.Memories.{writes, cell_frame, block_frame, memory_sent};
 
 use bus::{Frame, Outbox};
 
@@ -21,6 +21,13 @@ fn cell_of(frame: &Frame) -> usize
     ensures bound { result < 65536 }
 {
     usize::from(u16::from_be_bytes([frame.bytes[1], frame.bytes[2]]))
+}
+
+// Whether the frame is a command that writes cells.
+pub fn is_write(frame: &Frame) -> bool
+    ensures { result ≡ writes frame.now }
+{
+    frame.is_command(0xFC, 4) || frame.is_command(0xCA, 7)
 }
 
 // The byte at a place, if there is one.

@@ -1,5 +1,5 @@
 -- What is done to each of the four channels alike, and what holds of each. Assumes nothing.
-use Rattle.std.specs.Prelude.{ℕ}
+use Rattle.std.specs.Prelude.{ℕ, Bool, ◌||◌}
 use Rattle.relay.specs.declared.per_channel.PerChannel.{PerChannel}
 
 -- the same of each channel's value
@@ -14,6 +14,10 @@ paired f x y =
 -- the same of each channel's number, counted from 0
 abbrev pub numbered : {A : Type 0} → (ℕ → A) → PerChannel A
 numbered f = record { one = f 0; two = f 1; three = f 2; four = f 3 }
+
+-- it is so of some channel
+abbrev pub some : PerChannel Bool → Bool
+some x = x.one || (x.two || (x.three || x.four))
 
 -- P holds of each channel's value
 pub record Each {A : Type 0} (P : A → Type 0) (x : PerChannel A) : Type 0 where

@@ -15,6 +15,12 @@ is_closed opened = false
 is_closed closed = true
 is_closed (running n) = true
 
+-- its time runs
+abbrev pub is_running : Contact → Bool
+is_running opened = false
+is_running closed = false
+is_running (running n) = true
+
 -- a time that a timer can run: 1 to 0xFFFFFE seconds, or else the nearer end
 abbrev pub in_range : ℕ → ℕ
 in_range n = max 1 (min n 0xFFFFFE)

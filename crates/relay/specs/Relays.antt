@@ -131,4 +131,4 @@ design s =
 
 -- what a relay remembers
 abbrev pub content : Relay → Record
-content p = record { cells = memory_cells p.memory; state = state_of (all_shown p.channels) }
+content p = record { cells = memory_cells p.pairs.memory; state = state_of (all_shown p.channels) }

@@ -1,7 +1,7 @@
 -- The pairs of the relay's memory: whom they link, and which one a channel obeys. Assumes nothing.
 use Rattle.std.specs.Prelude.{ℕ, ◌+◌, ◌*◌, ◌/◌, Bool, true, cond, not, ◌&&◌, ◌||◌, List, is_some, Some, None, Option, ◌==◌, slice_index}
 use Rattle.module.specs.Bits.{has_bit}
-use Rattle.module.specs.Searches.{first}
+use Rattle.module.specs.Searches.{first, rows_in_use}
 use Rattle.relay.specs.declared.action.Action.{Action}
 use Rattle.relay.specs.declared.action.Action.TheVariants.{Clear, Set, Toggle, ToggleTimer, Start}
 use Rattle.relay.specs.declared.timers.Timers.{Timers}
@@ -36,6 +36,10 @@ named_in cells c a = is_some (first_pair cells c (record { address = a; buttons 
 -- some pair of the relay does
 abbrev pub named : List ℕ → ℕ → Bool
 named cells a = named_in cells 0 a || (named_in cells 1 a || (named_in cells 2 a || named_in cells 3 a))
+
+-- which of a channel's pairs bear the address of a seat
+abbrev pub pairs_in_use : List ℕ → ℕ → List ℕ
+pairs_in_use cells c = rows_in_use cells (256 * c) 2 120
 
 -- what a pair asks of its channel: by table clear, set, toggle, (mode), toggle timer 1, toggle timer 2, start timer 1,
 -- start timer 2

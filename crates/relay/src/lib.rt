@@ -3,6 +3,7 @@
 
 mod action;
 mod channel;
+mod pairs;
 mod per_channel;
 mod query;
 mod relay;

@@ -1,7 +1,7 @@
 // One value for each of the four channels. Definitions range over every value of this type, and an array would be a list
 // of any length there.
 ghost use Rattle.std.specs.Prelude.{◌≡◌};
-ghost use Rattle.relay.specs.Channels.{paired, numbered, Each, Paired};
+ghost use Rattle.relay.specs.Channels.{paired, numbered, some, Each, Paired};
 
 #[derive(Clone, Copy)]
 pub struct PerChannel<T> {
@@ -56,5 +56,14 @@ impl<T> PerChannel<T> {
             three: (self.three, other.three),
             four: (self.four, other.four),
         }
+    }
+}
+
+impl PerChannel<bool> {
+    // Whether it is so of some channel.
+    pub(crate) fn any(self) -> bool
+        ensures { result ≡ some self }
+    {
+        self.one || self.two || self.three || self.four
     }
 }

@@ -1,11 +1,8 @@
 // The state of a relay.
 use crate::channel::Channel;
+use crate::pairs::Pairs;
 use crate::per_channel::PerChannel;
 use crate::timers::Timers;
-use module::Memory;
-
-// How many cells the memory has.
-pub const CELLS: usize = 1024;
 
 // The timers of each channel.
 #[derive(Clone, Copy)]
@@ -16,6 +13,6 @@ pub struct RelaySetup {
 #[derive(Drop)]
 pub struct Relay {
     pub(crate) setup: RelaySetup,
-    pub(crate) memory: Memory<CELLS>,
+    pub(crate) pairs: Pairs,
     pub(crate) channels: PerChannel<Channel>,
 }

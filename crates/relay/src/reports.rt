@@ -41,14 +41,18 @@ impl PerChannel<Channel> {
         self.four.tell(own, 8, wanted.four, out);
     }
 
-    // Sends what follows a change of contacts, given which were made before it.
+    // Sends what follows a change of contacts, given which were made before it; mostly there is none.
+    #[tactic(auto, using(bus::proofs::Outboxes::sends_none, bus::proofs::Outboxes::sends_both, bus::proofs::Outboxes::room_left, crate::specs::Sent::four_told, crate::proofs::Unchanged::unreported))]
     pub(crate) fn report(&self, own: u8, was: PerChannel<bool>, out: &mut Outbox)
         requires { Room out.old 5 }
         ensures { Sends out.old out.new (report own was (all_shown self.now)) }
     {
         let is = self.made();
-        self.tell(own, changes(was, is), out);
-        send_switched(own, was, is, out);
+        let changed = changes(was, is);
+        if changed.any() {
+            self.tell(own, changed, out);
+            send_switched(own, was, is, out);
+        }
     }
 }
 

@@ -3,20 +3,24 @@ ghost use Rattle.std.specs.Prelude.{◌≡◌, ◌<◌, replicate};
 ghost use Rattle.bus.specs.Outboxes.{Room, Sends};
 ghost use Rattle.module.specs.Cells.{memory_cells};
 ghost use Rattle.relay.specs.Relays.{state_of, named_channels, start_action, commanded, carried, carried_out, answer, pairs, by_pair, by_pairs, pair_bits, all_bits, all_ticked, design, content};
+ghost use Rattle.relay.specs.Channels.{each, some};
+ghost use Rattle.relay.specs.Contacts.{is_running};
+ghost use Rattle.relay.specs.Reports.{made, report};
 ghost use Rattle.relay.specs.Shown.{shown, all_shown};
 ghost use Rattle.relay.specs.Orderly.{relay_orderly};
 ghost use Rattle.std.proofs.Common.{rules};
 
 use crate::action::Action;
 use crate::channel::Channel;
+use crate::pairs::{CELLS, Pairs};
 use crate::per_channel::{BITS, PerChannel};
 use crate::query::Query;
-use crate::relay::{CELLS, Relay, RelaySetup};
+use crate::relay::{Relay, RelaySetup};
 use crate::reports::send_lamps;
 use crate::tables::pair_cell;
 use crate::timers::Timers;
 use bus::{Frame, Outbox};
-use module::{Memory, Module, ModuleKind};
+use module::{Module, ModuleKind};
 use station::Edge;
 
 // Which channels a command names.
@@ -99,6 +103,21 @@ impl PerChannel<Channel> {
         }
     }
 
+    // Obeys a command, and tells its answer; what is no command for channels does nothing here, as most frames.
+    fn command(&mut self, own: u8, frame: &Frame, out: &mut Outbox)
+        requires { Room out.old 5 }
+        ensures after { all_shown self.new ≡ carried_out (commanded frame.now) (named_channels frame.now) (all_shown self.old) }
+        ensures sent { Sends out.old out.new (answer own frame.now (made (all_shown self.old)) (carried_out (commanded frame.now) (named_channels frame.now) (all_shown self.old))) }
+    {
+        let action = commanded(frame);
+        if action.is_none() && !frame.is_command(0xFA, 2) {
+            return;
+        }
+        let was = self.made();
+        self.carry_out(action, named_channels(frame));
+        self.answer(own, frame, was, out);
+    }
+
     // Each channel obeys its pair.
     fn obey_pairs(&mut self, timers: PerChannel<Timers>, pairs: PerChannel<Option<u8>>)
         ensures { all_shown self.new ≡ by_pairs timers pairs (all_shown self.old) }
@@ -130,30 +149,51 @@ impl PerChannel<Channel> {
             channel
         });
     }
+
+    // Whether some channel's time runs.
+    fn is_any_running(&self) -> bool
+        ensures { result ≡ some (each is_running (all_shown self.now)) }
+    {
+        self.map(|channel| channel.is_running()).any()
+    }
+
+    // A second passes, and what it changes is told: nothing, where no time runs.
+    #[tactic(auto, using(bus::proofs::Outboxes::sends_none, crate::proofs::Unchanged::not_ticked, crate::proofs::Unchanged::not_ticked_unreported))]
+    fn second(&mut self, own: u8, out: &mut Outbox)
+        requires { Room out.old 5 }
+        ensures after { all_shown self.new ≡ all_ticked (all_shown self.old) }
+        ensures sent { Sends out.old out.new (report own (made (all_shown self.old)) (all_ticked (all_shown self.old))) }
+    {
+        if self.is_any_running() {
+            let was = self.made();
+            self.tick();
+            self.report(own, was, out);
+        }
+    }
 }
 
 impl Relay {
     // The pair that each channel obeys on a button status.
     fn pairs(&self, frame: &Frame) -> PerChannel<Option<u8>>
-        ensures { result ≡ pairs (memory_cells self.now.memory) frame.now }
+        ensures { result ≡ pairs (memory_cells self.now.pairs.memory) frame.now }
     {
         let query = Query {
             address: frame.address,
             buttons: Some(frame.bytes[1]),
         };
-        PerChannel::from_fn(|c| self.first_pair(c, query))
+        self.pairs.first_pairs(query)
     }
 
     // The button bits of a pair of channel c.
     fn bits(&self, c: u8, pair: Option<u8>) -> Option<u8>
-        ensures { result ≡ pair_bits (memory_cells self.now.memory) c pair }
+        ensures { result ≡ pair_bits (memory_cells self.now.pairs.memory) c pair }
     {
-        pair.map(|p| self.memory.read(pair_cell(c, p) + 1))
+        pair.map(|p| self.pairs.memory.read(pair_cell(c, p) + 1))
     }
 
     // The button bits of each channel's pair.
     fn all_bits(&self, pairs: PerChannel<Option<u8>>) -> PerChannel<Option<u8>>
-        ensures { result ≡ all_bits (memory_cells self.now.memory) pairs }
+        ensures { result ≡ all_bits (memory_cells self.now.pairs.memory) pairs }
     {
         PerChannel::from_fn(|c| c)
             .zip(pairs)
@@ -172,16 +212,17 @@ impl Module for Relay {
     ghost sized = { Prim.search rules };
 
     fn command(&mut self, own: u8, frame: &Frame, out: &mut Outbox) {
-        self.memory.obey(own, frame, out);
-        let was = self.channels.made();
-        self.channels
-            .carry_out(commanded(frame), named_channels(frame));
-        self.channels.answer(own, frame, was, out);
+        self.pairs.obey(own, frame, out);
+        self.channels.command(own, frame, out);
     }
 
     fn broadcast(&mut self, _own: u8, _frame: &Frame, _out: &mut Outbox) {}
 
     fn status(&mut self, own: u8, frame: &Frame, out: &mut Outbox) {
+        if frame.bytes[1] == 0 {
+            // no button was just pressed
+            return;
+        }
         let pairs = self.pairs(frame);
         let was = self.channels.made();
         self.channels.obey_pairs(self.setup.timers, pairs);
@@ -196,15 +237,13 @@ impl Module for Relay {
     }
 
     fn second(&mut self, own: u8, out: &mut Outbox) {
-        let was = self.channels.made();
-        self.channels.tick();
-        self.channels.report(own, was, out);
+        self.channels.second(own, out);
     }
 
     fn push(&mut self, _own: u8, _channel: u8, _edge: Edge, _out: &mut Outbox) {}
 
     fn names(&self, _own: u8, address: u8) -> bool {
-        self.names_address(address)
+        self.pairs.names(address)
     }
 
     fn memory(&self) -> usize {
@@ -216,7 +255,7 @@ impl Module for Relay {
     }
 
     fn byte(&self, place: usize) -> Option<u8> {
-        self.memory.byte(&self.channels.bytes(), place)
+        self.pairs.memory.byte(&self.channels.bytes(), place)
     }
 }
 
@@ -235,7 +274,7 @@ impl ModuleKind for Relay {
     {
         Relay {
             setup,
-            memory: Memory::new(),
+            pairs: Pairs::new(),
             channels: PerChannel::from_fn(|_| Channel::Open),
         }
     }

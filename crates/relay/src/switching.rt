@@ -1,6 +1,6 @@
 // How a channel switches.
 ghost use Rattle.std.specs.Prelude.{◌≡◌, ◌/◌, ◌%◌, [], ◌∷◌};
-ghost use Rattle.relay.specs.Contacts.{in_range, is_closed, obeyed, ticked, contact_bytes};
+ghost use Rattle.relay.specs.Contacts.{in_range, is_closed, is_running, obeyed, ticked, contact_bytes};
 ghost use Rattle.relay.specs.Shown.{shown};
 
 use crate::action::Action;
@@ -34,6 +34,13 @@ impl Channel {
             Channel::Open => false,
             Channel::Closed | Channel::Running(_) => true,
         }
+    }
+
+    // Whether its time runs, as then a second changes it.
+    pub(crate) fn is_running(&self) -> bool
+        ensures { result ≡ is_running (shown self.now) }
+    {
+        matches!(self, Channel::Running(_))
     }
 
     // The outcome depends on both the state and the action.

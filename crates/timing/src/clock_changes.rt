@@ -50,19 +50,22 @@ impl Clock {
         }
     }
 
-    // A second passes.
+    // A second passes; mostly the minute goes on.
     pub fn tick(&mut self)
         ensures time { self.new ≡ a_second_later self.old }
         ensures real { Real self.new }
     {
-        let minute_ends = self.second == 59;
-        let hour_ends = minute_ends && self.minute == 59;
+        if self.second < 59 {
+            self.second += 1;
+            return;
+        }
+        let hour_ends = self.minute == 59;
         let day_ends = hour_ends && self.hour == 23;
         *self = Clock {
             day: next(day_ends, 6, self.day),
             hour: next(hour_ends, 23, self.hour),
-            minute: next(minute_ends, 59, self.minute),
-            second: next(true, 59, self.second),
+            minute: next(true, 59, self.minute),
+            second: 0,
         };
     }
 

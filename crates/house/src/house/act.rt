@@ -28,7 +28,8 @@ impl<S: Station> House<S> {
     }
 }
 
-// Writes the frames to the buffer's front, and appends them to the pending ones, which have the places.
+// Writes the frames to the buffer's front, and appends them to the pending ones, which have the places. They are few, so
+// one pass over them is faster than copying them as a slice.
 fn append(frames: &[Frame], buffer: &mut [Frame], pending: &mut VecDeque<Frame>)
     requires buffer { length frames.now ≤ length buffer.old }
     requires pending { deque_len pending.old + length frames.now ≤ deque_capacity pending.old }
@@ -36,8 +37,8 @@ fn append(frames: &[Frame], buffer: &mut [Frame], pending: &mut VecDeque<Frame>)
     ensures pending { pending.new.items ≡ pending.old.items ++ frames.now }
     ensures capacity { deque_capacity pending.new ≡ deque_capacity pending.old }
 {
-    buffer[..frames.len()].copy_from_slice(frames);
-    for frame in frames {
+    for (n, frame) in frames.iter().enumerate() {
+        buffer[n] = *frame;
         pending.push_back_reserved(*frame);
     }
 }

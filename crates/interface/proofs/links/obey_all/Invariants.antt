@@ -2,7 +2,7 @@ use Rattle.std.proofs.Common.{◌≡◌, ◌-◌}
 use Rattle.module.specs.Cells.{memory_cells}
 use Rattle.interface.specs.Links.{by_record, in_turn}
 use Rattle.interface.specs.Shown.{all_held}
-use Rattle.interface.proofs.links.obey_links.Given as goal
+use Rattle.interface.proofs.links.obey_all.Given as goal
 
 -- what is left leads to the same
 abbrev pub invariant-loop-k : goal.invariant-loop-k

@@ -5,7 +5,7 @@ use Rattle.std.proofs.lemmas.Iterator.Search.{find_from_yields_List}
 use Rattle.module.specs.Cells.{memory_cells}
 use Rattle.module.proofs.First.{first-find}
 use Rattle.relay.specs.Tables.{matches}
-use Rattle.relay.proofs.relay.Relay.first_pair.Goals as goal
+use Rattle.relay.proofs.pairs.Pairs.first_of_all.Goals as goal
 
 pub returns : goal.returns
 returns c =
