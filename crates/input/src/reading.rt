@@ -46,11 +46,11 @@ fn form_of(bytes: &[u8]) -> Form
     }
 }
 
-// Memory is taken once, for as many bytes as are read at most.
+// Memory is taken once, for as many bytes as are read at most, and some in which the end is looked for.
 fn read_binary<R: Read + Drop>(heap: Global, reader: R) -> anyhow::Result<Vec<u8>>
     ensures { IfOk result (λ log. IfSome (R.remaining reader) (λ bytes. log.items ≡ take 60000 bytes)) }
 {
-    let mut log = Vec::with_capacity(heap, LIMIT)?;
+    let mut log = Vec::with_capacity(heap, LIMIT + 64)?;
     reader.take(60_000).read_to_end(&mut log)?;
     Ok(log)
 }
