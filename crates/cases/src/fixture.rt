@@ -19,7 +19,7 @@ pub(crate) type Modules = Rail<Seat<Panel>, Sieve<Seat<Relay>>>;
 pub(crate) type Buttons = Rail<Seat<Panel>, Seat<ButtonInterface>>;
 
 // Timer 1 runs for 5 seconds and timer 2 for 70,000; those of channel 4 are out of range at both ends.
-pub(crate) fn modules() -> Modules {
+fn modules() -> Modules {
     let timers = Timers {
         first: 5,
         second: 70_000,
@@ -57,30 +57,22 @@ pub(crate) fn interface() -> Seat<ButtonInterface> {
     new_button_interface(0x20, setup)
 }
 
-pub(crate) fn buttons() -> Buttons {
+fn buttons() -> Buttons {
     Rail {
         first: new_panel(0x30, PanelSetup { year: 8, week: 17 }),
         second: interface(),
     }
 }
 
-// A house over the panel and the relay.
-pub(crate) fn house(heap: Global) -> Result<House<Modules>, Fail> {
-    house_over(heap, modules())
-}
-
 fn house_over<S: Station + Drop>(heap: Global, station: S) -> Result<House<S>, Fail> {
     House::new(heap, station).map_err(|_| Fail::new("no memory"))
 }
 
-// Something that is done: a frame is put, a button pushed (address, channel and edge, as the house takes them), or seconds
-// pass.
+// Something that is done: a frame is put, or a button pushed (address, channel and edge, as the house takes them).
 #[derive(Clone, Copy)]
 pub(crate) enum Input {
     Put([u8; 12]),
     Push(u8, u8, u8),
-    Second,
-    Seconds(u32),
 }
 
 // Does each input on a new house with the panel and the relay; the frames sent must be these, in order.
@@ -129,21 +121,7 @@ fn act<S: Station>(house: &mut House<S>, input: Input, sent: &mut Vec<Frame>) ->
             let (count, _) = served(house.push(address, channel, edge, &mut buffer))?;
             keep(&buffer, count, sent)
         }
-        Input::Second => second(house, sent),
-        Input::Seconds(count) => {
-            for _ in 0..count {
-                second(house, sent)?;
-                settle(house, sent)?;
-            }
-            Ok(())
-        }
     }
-}
-
-fn second<S: Station>(house: &mut House<S>, sent: &mut Vec<Frame>) -> Result<(), Fail> {
-    let mut buffer = [Frame::default(); 18];
-    let (count, _) = served(house.second(&mut buffer))?;
-    keep(&buffer, count, sent)
 }
 
 fn settle<S: Station>(house: &mut House<S>, sent: &mut Vec<Frame>) -> Result<(), Fail> {
@@ -164,19 +142,6 @@ fn keep(buffer: &[Frame], count: usize, sent: &mut Vec<Frame>) -> Result<(), Fai
 }
 
 // What a call answered, unless it was refused.
-pub(crate) fn served<T>(answer: Result<T, Refusal>) -> Result<T, Fail> {
+fn served<T>(answer: Result<T, Refusal>) -> Result<T, Fail> {
     answer.map_err(|_| Fail::new("refused"))
-}
-
-// The call must be refused with that number.
-pub(crate) fn refused<T: Drop>(
-    rt: &impl Abort,
-    answer: Result<T, Refusal>,
-    number: u8,
-) -> Result<(), Fail> {
-    let Err(refusal) = answer else {
-        return Err(Fail::new("served"));
-    };
-    assert_eq!(rt; refusal.number(), number);
-    Ok(())
 }

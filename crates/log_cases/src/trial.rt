@@ -2,7 +2,8 @@
 use crate::case::Case;
 use crate::difference::{Difference, Subject};
 use crate::look::Look;
-use crate::modules::{Modules, new_bench};
+use crate::modules::new_bench;
+use kinds::BenchModules;
 use anyhow::{Result, anyhow};
 use benchlog::Bench;
 use std::alloc::Global;
@@ -28,7 +29,7 @@ pub(crate) fn differences(heap: Global, case: &Case<'_>) -> Result<Vec<Differenc
 // Takes a look, and notes what it finds if that is something else.
 fn look_at(
     heap: Global,
-    bench: &Bench<Modules>,
+    bench: &Bench<BenchModules>,
     look: &Look<'_>,
     differences: &mut Vec<Difference>,
 ) -> Result<()> {
