@@ -3,14 +3,6 @@ use house::House;
 use station::Station;
 use words::ModuleType;
 
-// How many cells the memory of a module has.
-fn cells(module: ModuleType) -> usize {
-    match module {
-        ModuleType::Panel => 256,
-        ModuleType::Relay | ModuleType::Buttons => 1024,
-    }
-}
-
 // Shows the record of a module in one line: its cells, except those that are as in a new memory, and its state bytes.
 pub fn show_record<S: Station>(
     rt: &HostRuntime,
@@ -18,7 +10,7 @@ pub fn show_record<S: Station>(
     address: u8,
     module: ModuleType,
 ) -> anyhow::Result<()> {
-    let cells = cells(module);
+    let cells = module.cells();
     print!(rt; "{module} {address:02X}: all cells FF")?;
     let mut differs = false;
     for place in 0..cells {

@@ -5,23 +5,21 @@ ghost use Rattle.trace.specs.Noted.{frame_put, arrived};
 use bus::{Frame, Refusal};
 use house::Call;
 use runs::Reply;
-use station::Edge;
 use std::alloc::Global;
-use std::collections::BTreeMap;
-use words::{Hex, InWords, ModuleType};
+use words::{Hex, InWords, Modules, edge_name};
 
 // The kinds of the modules by address, the frames in the order in which they came onto the bus, and how many of them
 // passed.
 #[derive(Drop)]
 pub struct Shown {
-    modules: BTreeMap<u8, ModuleType>,
+    modules: Modules,
     frames: Vec<Frame>,
     passed: usize,
 }
 
 impl Shown {
     // Of a new house.
-    pub fn new(heap: Global, modules: BTreeMap<u8, ModuleType>) -> Self
+    pub fn new(heap: Global, modules: Modules) -> Self
         ensures frames { result.frames.items ≡ [] }
         ensures passed { result.passed ≡ 0 }
     {
@@ -129,20 +127,11 @@ impl Shown {
     pub fn line(&self, rt: &HostRuntime, what: &str, frame: Frame) -> anyhow::Result<()> {
         let hex = Hex(frame);
         let spoken = InWords {
-            module: self.modules.get(&frame.address).copied(),
+            modules: &self.modules,
             frame,
         };
         println!(rt; "{what:6}{hex}  {spoken}")?;
         Ok(())
-    }
-}
-
-fn edge_name(edge: u8) -> &'static str {
-    match Edge::try_from(edge) {
-        Ok(Edge::Press) => "press",
-        Ok(Edge::Release) => "release",
-        Ok(Edge::LongPress) => "long press",
-        Err(_) => "no edge",
     }
 }
 

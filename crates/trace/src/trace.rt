@@ -12,8 +12,7 @@ use house::{Call, House};
 use runs::Reply;
 use station::Station;
 use std::alloc::Global;
-use std::collections::BTreeMap;
-use words::ModuleType;
+use words::Modules;
 
 #[derive(Drop)]
 pub struct Trace<S: Station + Drop> {
@@ -29,7 +28,7 @@ const SECOND: Call = Call::Second { places: PLACES };
 const STEP: Call = Call::Step { places: PLACES };
 
 impl<S: Station + Drop> Trace<S> {
-    pub fn new(heap: Global, house: House<S>, modules: BTreeMap<u8, ModuleType>) -> Self
+    pub fn new(heap: Global, house: House<S>, modules: Modules) -> Self
         ensures house { result.house ≡ house }
         ensures frames { result.shown.frames.items ≡ [] }
         ensures passed { result.shown.passed ≡ 0 }

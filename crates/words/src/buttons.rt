@@ -1,38 +1,41 @@
-// What frames say of buttons and the lamps beside them.
-use crate::numbers::Numbers;
+// What happens to buttons.
+use crate::numbers::Several;
 use bus::Frame;
+use station::Edge;
 use std::fmt;
 
-// What a frame says of any module with buttons.
-pub(crate) fn buttons<W: fmt::Write>(frame: &Frame, f: &mut fmt::Formatter<W>) -> fmt::Result {
-    let [command, second, third, fourth, _, _, _, _] = frame.bytes;
-    let named = Numbers(second);
-    match command {
-        0x00 => edges(second, third, fourth, f),
-        0xF4 => f.write_str("set all lamps"),
-        0xF5 => write!(f, "lamp {named} out"),
-        0xF6 => write!(f, "lamp {named} on"),
-        0xF7 => write!(f, "lamp {named} blinks slowly"),
-        0xF8 => write!(f, "lamp {named} blinks fast"),
-        0xF9 => write!(f, "lamp {named} blinks very fast"),
-        0xFA => f.write_str("tell the status"),
-        _ => f.write_str("something else"),
+// The name of an edge, which is a number as tools and logs have it.
+pub fn edge_name(edge: u8) -> &'static str {
+    match Edge::try_from(edge) {
+        Ok(Edge::Press) => "press",
+        Ok(Edge::Release) => "release",
+        Ok(Edge::LongPress) => "long press",
+        Err(_) => "no edge",
     }
 }
 
-// What happened to buttons.
-fn edges<W: fmt::Write>(
-    pressed: u8,
-    released: u8,
-    long: u8,
-    f: &mut fmt::Formatter<W>,
-) -> fmt::Result {
-    let (buttons, edge) = if pressed != 0 {
-        (Numbers(pressed), "pressed")
-    } else if released != 0 {
-        (Numbers(released), "released")
-    } else {
-        (Numbers(long), "pressed for long")
+// Whether the frame is a button status.
+pub(crate) fn is_status(frame: &Frame) -> bool {
+    frame.is_command(0x00, 4)
+}
+
+// What a button status tells: each edge that buttons had.
+pub(crate) fn status<W: fmt::Write>(frame: &Frame, f: &mut fmt::Formatter<W>) -> fmt::Result {
+    let [_, pressed, released, long, _, _, _, _] = frame.bytes;
+    let edges = [
+        (pressed, "pressed"),
+        (released, "released"),
+        (long, "pressed for long"),
+    ];
+    let mut told = edges.iter().filter(|(bits, _)| *bits != 0);
+    let Some((bits, edge)) = told.next() else {
+        return f.write_str("no button pressed or released");
     };
-    write!(f, "button {buttons} {edge}")
+    let buttons = Several::buttons(*bits);
+    write!(f, "{buttons} {edge}")?;
+    for (bits, edge) in told {
+        let buttons = Several::buttons(*bits);
+        write!(f, ", {buttons} {edge}")?;
+    }
+    Ok(())
 }

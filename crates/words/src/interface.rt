@@ -1,33 +1,39 @@
 // What frames say of button interfaces.
-use crate::buttons::buttons;
-use crate::numbers::Numbers;
-use crate::times::clock;
+use crate::numbers::{Numbers, Several};
+use crate::times::LockTime;
 use bus::Frame;
 use std::fmt;
 
-// What a frame says of a button interface.
+// Whether the frame says what only button interfaces understand or tell.
+pub(crate) fn is_interface(frame: &Frame) -> bool {
+    matches!(
+        (frame.bytes[0], frame.count),
+        (0x12, 5) | (0x13, 2) | (0xED, 7) | (0xFF, 7)
+    )
+}
+
+// What such a frame says.
 pub(crate) fn interface<W: fmt::Write>(frame: &Frame, f: &mut fmt::Formatter<W>) -> fmt::Result {
     let [command, bits, _, _, locked, _, _, _] = frame.bytes;
-    let named = Numbers(bits);
+    let channels = Several::channels(bits);
     match command {
-        0x12 => lock(named, frame.seconds(), f),
-        0x13 => write!(f, "unlock channels {named}"),
-        0xD7 | 0xD8 => clock(frame, f),
+        0x12 => lock(channels, frame.seconds(), f),
+        0x13 => write!(f, "unlock {channels}"),
         0xED => {
+            let pressed = Numbers(bits);
             let locked = Numbers(locked);
-            write!(f, "buttons pressed {named}; channels locked {locked}")
+            write!(f, "buttons pressed: {pressed}; channels locked: {locked}")
         }
-        0xFF => built(frame, f),
-        _ => buttons(frame, f),
+        _ => built(frame, f),
     }
 }
 
 // How long to lock channels.
-fn lock<W: fmt::Write>(channels: Numbers, time: u32, f: &mut fmt::Formatter<W>) -> fmt::Result {
+fn lock<W: fmt::Write>(channels: Several, time: u32, f: &mut fmt::Formatter<W>) -> fmt::Result {
+    let lasting = LockTime(time);
     match time {
-        0 => write!(f, "lock channels {channels} for 0 s, which does nothing"),
-        0xFFFFFF => write!(f, "lock channels {channels} until unlocked"),
-        _ => write!(f, "lock channels {channels} for {time} s"),
+        0 => write!(f, "lock {channels} for 0 s, which does nothing"),
+        _ => write!(f, "lock {channels} {lasting}"),
     }
 }
 

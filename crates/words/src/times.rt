@@ -1,13 +1,51 @@
-// Times in frames.
+// Times in words.
 use bus::Frame;
 use std::fmt;
 
+// So many seconds, in hours, minutes and seconds.
+#[derive(Clone, Copy)]
+pub struct Span(pub u32);
+
+impl fmt::Display for Span {
+    fn fmt<W: fmt::Write>(&self, f: &mut fmt::Formatter<W>) -> fmt::Result {
+        let seconds = self.0;
+        let parts = [
+            (seconds / 3600, "h"),
+            (seconds / 60 % 60, "min"),
+            (seconds % 60, "s"),
+        ];
+        let mut told = parts.iter().filter(|(number, _)| *number != 0);
+        let Some((number, unit)) = told.next() else {
+            return f.write_str("0 s");
+        };
+        write!(f, "{number} {unit}")?;
+        for (number, unit) in told {
+            write!(f, " {number} {unit}")?;
+        }
+        Ok(())
+    }
+}
+
+// How long a lock lasts.
+#[derive(Clone, Copy)]
+pub struct LockTime(pub u32);
+
+impl fmt::Display for LockTime {
+    fn fmt<W: fmt::Write>(&self, f: &mut fmt::Formatter<W>) -> fmt::Result {
+        let time = Span(self.0);
+        match self.0 {
+            0xFFFFFF => f.write_str("until unlocked"),
+            _ => write!(f, "for {time}"),
+        }
+    }
+}
+
 // A minute of the week; day 0 is Monday.
 #[derive(Clone, Copy)]
-pub(crate) struct Moment {
-    pub(crate) day: u8,
-    pub(crate) hour: u8,
-    pub(crate) minute: u8,
+pub struct Moment {
+    pub day: u8,
+    pub hour: u8,
+    pub minute: u8,
 }
 
 impl fmt::Display for Moment {
@@ -28,14 +66,24 @@ impl fmt::Display for Moment {
     }
 }
 
+impl Moment {
+    fn is_real(self) -> bool {
+        self.day < 7 && self.hour < 24 && self.minute < 60
+    }
+}
+
+pub(crate) fn is_clock(frame: &Frame) -> bool {
+    frame.is_command(0xD7, 1) || frame.is_command(0xD8, 4)
+}
+
 // What a frame says of a clock; with address 0 the time is set.
 pub(crate) fn clock<W: fmt::Write>(frame: &Frame, f: &mut fmt::Formatter<W>) -> fmt::Result {
     let [command, day, hour, minute, _, _, _, _] = frame.bytes;
     let moment = Moment { day, hour, minute };
-    match command {
-        0xD7 => f.write_str("tell the time"),
-        0xD8 if frame.address == 0 => write!(f, "set the clock to {moment}"),
-        0xD8 => write!(f, "the time is {moment}"),
-        _ => f.write_str("something else"),
+    match (command, frame.address) {
+        (0xD7, _) => f.write_str("tell the time"),
+        (_, 0) if moment.is_real() => write!(f, "set the clock to {moment}"),
+        (_, 0) => write!(f, "set the clock to {moment}, a time that does not exist"),
+        _ => write!(f, "the time is {moment}"),
     }
 }

@@ -1,0 +1,19 @@
+// The lines of the output.
+use std::fmt;
+
+// A line for an item: its place in the log, what it is, and that in words.
+pub fn item<D: fmt::Display + Drop>(
+    rt: &HostRuntime,
+    place: usize,
+    what: &str,
+    words: D,
+) -> anyhow::Result<()> {
+    println!(rt; "{place:5}  {what:8}{words}")?;
+    Ok(())
+}
+
+// A line under that of an item.
+pub fn under<D: fmt::Display + Drop>(rt: &HostRuntime, words: D) -> anyhow::Result<()> {
+    println!(rt; "               {words}")?;
+    Ok(())
+}

@@ -1,0 +1,156 @@
+// How the items of a log are told: what is done, and under it what comes of it.
+use crate::advice::Advice;
+use crate::lines::{item, under};
+use crate::note::Note;
+use crate::quiet::{Quiet, is_quiet};
+use bus::{Frame, Refusal};
+use house::Call;
+use runs::Entry;
+use std::alloc::Global;
+use std::collections::VecDeque;
+use words::{Cells, InWords, Modules, Named, edge_name};
+
+// The modules by their addresses, the frames that wait, and the quiet seconds that are still to be told.
+#[derive(Drop)]
+pub struct Teller {
+    modules: Modules,
+    waiting: VecDeque<Frame>,
+    quiet: Option<Quiet>,
+}
+
+impl Teller {
+    pub fn new(heap: Global, modules: Modules) -> Self {
+        Teller {
+            modules,
+            waiting: VecDeque::new(heap),
+            quiet: None,
+        }
+    }
+
+    // Tells an item by its place and what was noted of its call.
+    pub fn tell(&mut self, rt: &HostRuntime, place: usize, entry: &Entry) -> anyhow::Result<()> {
+        if is_quiet(entry) {
+            self.quiet = Some(Quiet::and(self.quiet, place));
+            return Ok(());
+        }
+        self.tell_quiet(rt)?;
+        self.tell_call(rt, place, entry)?;
+        match entry.answer {
+            Ok(_) => self.tell_sent(rt, entry),
+            Err(refusal) => self.tell_refused(rt, entry.call, refusal),
+        }
+    }
+
+    // Tells the quiet seconds that were not told yet.
+    pub fn tell_quiet(&mut self, rt: &HostRuntime) -> anyhow::Result<()> {
+        match self.quiet.take() {
+            Some(quiet) => quiet.tell(rt),
+            None => Ok(()),
+        }
+    }
+
+    // The line of a call; for a step, with the frame that waited longest. What a written frame means stands under it.
+    fn tell_call(&self, rt: &HostRuntime, place: usize, entry: &Entry) -> anyhow::Result<()> {
+        let note = Note {
+            modules: &self.modules,
+            entry,
+        };
+        match entry.call {
+            Call::Put(frame) => {
+                let spoken = self.spoken(frame);
+                item(rt, place, "put", format_args!("{spoken}{note}"))?;
+                self.tell_cells(rt, &frame)
+            }
+            Call::Push {
+                address,
+                channel,
+                edge,
+                ..
+            } => {
+                let named = self.named(address);
+                let edge = edge_name(edge);
+                let words = format_args!("button {channel} of {named}: {edge}{note}");
+                item(rt, place, "push", words)
+            }
+            Call::Second { .. } => item(rt, place, "second", "time passes: 1 s"),
+            Call::Step { .. } => match self.waiting.front() {
+                Some(frame) => {
+                    let spoken = self.spoken(*frame);
+                    item(rt, place, "step", format_args!("{spoken}{note}"))
+                }
+                None => item(rt, place, "step", "no frame waits"),
+            },
+            Call::Clear => item(rt, place, "clear", format_args!("the bus{note}")),
+            Call::Record { .. } => Ok(()),
+        }
+    }
+
+    // Each frame that was sent, and what the cells mean that it tells of.
+    fn tell_sent(&mut self, rt: &HostRuntime, entry: &Entry) -> anyhow::Result<()> {
+        // a reply to a write repeats what was written
+        let told = self
+            .pass(entry.call)?
+            .is_some_and(|passing| passing.is_command(0xCA, 7));
+        for frame in &entry.sent {
+            let spoken = self.spoken(*frame);
+            under(rt, format_args!("sent  {spoken}"))?;
+            if !told {
+                self.tell_cells(rt, frame)?;
+            }
+            self.waiting.push_back(*frame)?;
+        }
+        Ok(())
+    }
+
+    // Lets a call that was served add frames to the waiting ones or take them; a step answers the one that passes.
+    fn pass(&mut self, call: Call) -> anyhow::Result<Option<Frame>> {
+        match call {
+            Call::Put(frame) => self.waiting.push_back(frame)?,
+            Call::Step { .. } => return Ok(self.waiting.pop_front()),
+            Call::Clear => self.waiting.clear(),
+            Call::Push { .. } | Call::Second { .. } | Call::Record { .. } => {}
+        }
+        Ok(None)
+    }
+
+    fn tell_refused(&self, rt: &HostRuntime, call: Call, refusal: Refusal) -> anyhow::Result<()> {
+        let number = refusal.number();
+        let advice = Advice {
+            modules: &self.modules,
+            call,
+            refusal,
+            waiting: self.waiting.len(),
+        };
+        under(
+            rt,
+            format_args!("refused with {number}: {refusal} ({advice})"),
+        )
+    }
+
+    // What the cells mean that a frame writes or tells of.
+    fn tell_cells(&self, rt: &HostRuntime, frame: &Frame) -> anyhow::Result<()> {
+        let Some(cells) = Cells::of(&self.modules, frame) else {
+            return Ok(());
+        };
+        for at in 0..4 {
+            if let Some(part) = cells.part(at) {
+                under(rt, format_args!("  {part}"))?;
+            }
+        }
+        Ok(())
+    }
+
+    fn spoken(&self, frame: Frame) -> InWords<'_> {
+        InWords {
+            modules: &self.modules,
+            frame,
+        }
+    }
+
+    fn named(&self, address: u8) -> Named<'_> {
+        Named {
+            modules: &self.modules,
+            address,
+        }
+    }
+}

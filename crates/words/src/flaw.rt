@@ -1,0 +1,50 @@
+// What is wrong with a frame.
+use bus::Frame;
+use std::fmt;
+
+// The first of the rules of a frame that a frame breaks.
+#[derive(Clone, Copy)]
+pub enum Flaw {
+    Priority(u8),
+    Rtr(u8),
+    Count(u8),
+    // A request with so many data bytes.
+    RequestWithData(u8),
+    // A data byte that the count leaves out.
+    Leftover,
+}
+
+impl Flaw {
+    // None if the frame is well formed.
+    pub fn of(frame: &Frame) -> Option<Self> {
+        match *frame {
+            Frame { priority: 4.., .. } => Some(Flaw::Priority(frame.priority)),
+            Frame { rtr: 2.., .. } => Some(Flaw::Rtr(frame.rtr)),
+            Frame { count: 9.., .. } => Some(Flaw::Count(frame.count)),
+            Frame {
+                rtr: 1,
+                count: 1..,
+                ..
+            } => Some(Flaw::RequestWithData(frame.count)),
+            _ if frame.is_well_formed() => None,
+            _ => Some(Flaw::Leftover),
+        }
+    }
+}
+
+impl fmt::Display for Flaw {
+    fn fmt<W: fmt::Write>(&self, f: &mut fmt::Formatter<W>) -> fmt::Result {
+        match self {
+            Flaw::Priority(priority) => write!(f, "its priority, {priority:02X}, is above 03"),
+            Flaw::Rtr(rtr) => write!(f, "its RTR, {rtr:02X}, is neither 00 nor 01"),
+            Flaw::Count(count) => write!(f, "its count, {count:02X}, is above 08"),
+            Flaw::RequestWithData(count) => {
+                write!(
+                    f,
+                    "with RTR 01 the count has to be 00, and it is {count:02X}"
+                )
+            }
+            Flaw::Leftover => f.write_str("data bytes past its count have to be 00"),
+        }
+    }
+}

@@ -1,0 +1,65 @@
+// The lamps beside buttons.
+use crate::numbers::{Numbers, Several};
+use bus::Frame;
+use std::fmt;
+
+// Eight lamps by their bits; one with both blinking bits blinks very fast.
+#[derive(Clone, Copy)]
+pub struct Lamps {
+    pub on: u8,
+    pub slow: u8,
+    pub fast: u8,
+}
+
+impl fmt::Display for Lamps {
+    fn fmt<W: fmt::Write>(&self, f: &mut fmt::Formatter<W>) -> fmt::Result {
+        let Lamps { on, slow, fast } = *self;
+        let lit = on | slow | fast;
+        if lit == 0 {
+            return f.write_str("all out");
+        }
+        let groups = [
+            (on, "on"),
+            (slow & !fast, "blinking slowly"),
+            (fast & !slow, "blinking fast"),
+            (slow & fast, "blinking very fast"),
+        ];
+        for (bits, mode) in groups.iter().filter(|(bits, _)| *bits != 0) {
+            let numbers = Numbers(*bits);
+            write!(f, "{numbers} {mode}; ")?;
+        }
+        f.write_str(match lit {
+            0xFF => "none out",
+            _ => "others out",
+        })
+    }
+}
+
+pub(crate) fn is_lamps(frame: &Frame) -> bool {
+    match frame.bytes[0] {
+        0xF4 => frame.count == 4,
+        0xF5..=0xF9 => frame.count == 2,
+        _ => false,
+    }
+}
+
+// What a frame asks of lamps.
+pub(crate) fn lamp_command<W: fmt::Write>(frame: &Frame, f: &mut fmt::Formatter<W>) -> fmt::Result {
+    let [command, bits, slow, fast, _, _, _, _] = frame.bytes;
+    let named = Several::lamps(bits);
+    match command {
+        0xF4 => {
+            let lamps = Lamps {
+                on: bits,
+                slow,
+                fast,
+            };
+            write!(f, "set all lamps: {lamps}")
+        }
+        0xF5 => write!(f, "{named} out"),
+        0xF6 => write!(f, "{named} on"),
+        0xF7 => write!(f, "{named} blinking slowly"),
+        0xF8 => write!(f, "{named} blinking fast"),
+        _ => write!(f, "{named} blinking very fast"),
+    }
+}
