@@ -48,10 +48,13 @@ fn main(rt: HostRuntime) -> anyhow::Result<()> {
 fn run(rt: &HostRuntime, form: Form) -> anyhow::Result<()> {
     let log = read_log(rt.alloc(), rt.reader(), form)?;
     if log.len() == LIMIT {
-        eprintln!(rt; "bench: read {LIMIT} bytes, which is all that it takes; what follows was not read")?;
+        eprintln!(rt;
+            "bench: read {LIMIT} bytes, which is all that it takes; what follows was not read"
+        )?;
     }
-    let bench = Bench::new(rt.alloc(), bench_modules())
-        .map_err(|_| anyhow!("there is no memory for the house"))?;
+    let bench = Bench::new(rt.alloc(), bench_modules()).map_err(|_| anyhow!(
+        "there is no memory for the house"
+    ))?;
     let out = BufWriter::with_capacity(rt.alloc(), 65_536, io::writer(rt))?;
     match form {
         Form::Binary => write_answers(bench, log.as_slice(), out),

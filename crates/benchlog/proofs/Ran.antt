@@ -12,7 +12,6 @@ use Rattle.benchlog.specs.Items.{Found, recorded}
 use Rattle.benchlog.specs.Bytes.{fault_bytes}
 use Rattle.benchlog.specs.Benches.{RanItems, entry_bytes, item_bytes, after_found, found_bytes, call_in, end_in}
 
-
 -- one item or fault more
 pub ran_more : (fs : List Found) (f : Found) (x y : Bus) (bytes : List ℕ) → flat_map end_in fs ≡ [] → RanItems fs x y bytes → RanItems (fs ++ f ∷ []) x (after_found f y) (bytes ++ found_bytes y f)
 ran_more fs (Ok i) x y bytes e r =
@@ -24,8 +23,8 @@ ran_more fs (Ok i) x y bytes e r =
       run = run_more x r.entries y (recorded i) r.run;
       calls = map-append (λ k. k.call) r.entries (new ∷ []) ∙ ap (λ cs. cs ++ recorded i ∷ []) r.calls ∙ sym (flat_map-append call_in fs (Ok i ∷ []));
       answers =
-        ap (λ t. t ++ last) (r.answers ∙ ap (λ t. first ++ t) e ∙ append-nil first)
-        ∙ sym (ap (λ t. t ++ flat_map end_in (fs ++ Ok i ∷ [])) (flat_map-append entry_bytes r.entries (new ∷ []) ∙ ap (λ t. first ++ t) (append-nil last))
+          ap (λ t. t ++ last) (r.answers ∙ ap (λ t. first ++ t) e ∙ append-nil first)
+          ∙ sym (ap (λ t. t ++ flat_map end_in (fs ++ Ok i ∷ [])) (flat_map-append entry_bytes r.entries (new ∷ []) ∙ ap (λ t. first ++ t) (append-nil last))
           ∙ ap (λ t. first ++ last ++ t) (flat_map-append end_in fs (Ok i ∷ []) ∙ ap (λ t. t ++ []) e)
           ∙ append-nil (first ++ last));
     }
@@ -37,8 +36,8 @@ ran_more fs (Err g) x y bytes e r =
       run = r.run;
       calls = r.calls ∙ sym (flat_map-append call_in fs (Err g ∷ []) ∙ append-nil (flat_map call_in fs));
       answers =
-        ap (λ t. t ++ last) (r.answers ∙ ap (λ t. first ++ t) e ∙ append-nil first)
-        ∙ sym (ap (λ t. first ++ t) (flat_map-append end_in fs (Err g ∷ []) ∙ ap (λ t. t ++ (last ++ [])) e ∙ append-nil last));
+          ap (λ t. t ++ last) (r.answers ∙ ap (λ t. first ++ t) e ∙ append-nil first)
+          ∙ sym (ap (λ t. first ++ t) (flat_map-append end_in fs (Err g ∷ []) ∙ ap (λ t. t ++ (last ++ [])) e ∙ append-nil last));
     }
 
 -- the front of a buffer that bytes were copied in

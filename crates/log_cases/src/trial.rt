@@ -3,9 +3,9 @@ use crate::case::Case;
 use crate::difference::{Difference, Subject};
 use crate::look::Look;
 use crate::modules::new_bench;
-use kinds::BenchModules;
 use anyhow::{Result, anyhow};
 use benchlog::Bench;
+use kinds::BenchModules;
 use std::alloc::Global;
 
 // Runs the log of a case on a new bench, looks at the records then, and answers what is not as it should be.

@@ -18,9 +18,9 @@ loop-frame-preserved c =
     record {
       count = omega (arith, before.count);
       bytes =
-        ap (λ b. put_mid l.at (l.at + 13 - l.at) b c.copy_from_slice.new.self) before.bytes
-        ∙ copied_more done _ old c.copy_from_slice.new.self l.at (l.at + 13 - l.at) (before.count ∙ sym counted) (omega arith) (c.copy_from_slice.ensures.after ∙ c.tagged.ensures.value)
-        ∙ ap (λ t. copied_in t old) (bytes_more fs l.frame-index _ c.loop-frame-test.true);
+          ap (λ b. put_mid l.at (l.at + 13 - l.at) b c.copy_from_slice.new.self) before.bytes
+          ∙ copied_more done _ old c.copy_from_slice.new.self l.at (l.at + 13 - l.at) (before.count ∙ sym counted) (omega arith) (c.copy_from_slice.ensures.after ∙ c.tagged.ensures.value)
+          ∙ ap (λ t. copied_in t old) (bytes_more fs l.frame-index _ c.loop-frame-test.true);
     }
 
 pub returns-clause-count : goal.returns-clause-count
