@@ -1,7 +1,7 @@
 // Room on the bus: with N relays and p pending frames a step is served if p - 1 + 9 N is at most 256. So it is served
 // up to p = 257 - 9 N, and refused with 10 from there on.
 use crate::calls::{mark, refuses, served, steps};
-use crate::stations::{eleven, fifteen, fourteen, house_over, sixteen, ten, thirteen, twelve};
+use crate::stations::{house_over, sixteen, ten};
 use bus::Frame;
 use house::{Call, House};
 use station::Station;
@@ -89,31 +89,6 @@ fn stops_at<S: Station + Drop>(
 #[test]
 fn ten_relays(rt: HostRuntime) -> Result<(), Fail> {
     stops_at(&rt, ten(), 0x1A, 167)
-}
-
-#[test]
-fn eleven_relays(rt: HostRuntime) -> Result<(), Fail> {
-    stops_at(&rt, eleven(), 0x19, 158)
-}
-
-#[test]
-fn twelve_relays(rt: HostRuntime) -> Result<(), Fail> {
-    stops_at(&rt, twelve(), 0x18, 149)
-}
-
-#[test]
-fn thirteen_relays(rt: HostRuntime) -> Result<(), Fail> {
-    stops_at(&rt, thirteen(), 0x17, 140)
-}
-
-#[test]
-fn fourteen_relays(rt: HostRuntime) -> Result<(), Fail> {
-    stops_at(&rt, fourteen(), 0x16, 131)
-}
-
-#[test]
-fn fifteen_relays(rt: HostRuntime) -> Result<(), Fail> {
-    stops_at(&rt, fifteen(), 0x15, 122)
 }
 
 #[test]

@@ -1,6 +1,6 @@
 // Houses of 16 seats, which is the most, and houses that were put together wrongly.
 use crate::calls::{mark, refuses, served};
-use crate::stations::{fifteen, house_over, panel, relay, seventeen, two};
+use crate::stations::{house_over, panel, relay, seventeen, small, two};
 use bus::Frame;
 use house::{Call, House};
 use station::{Rail, Sieve, Station};
@@ -47,11 +47,7 @@ fn faulty<S: Station + Drop>(
 // Sixteen seats take 144 places.
 #[test]
 fn sixteen_seats(rt: HostRuntime) -> Result<(), Fail> {
-    let station = Rail {
-        first: fifteen(),
-        second: panel(0x20),
-    };
-    let mut house = house_over(rt.alloc(), station)?;
+    let mut house = house_over(rt.alloc(), small())?;
     let mut buffer = [mark(); 144];
     refuses(&rt, &mut house, Call::Second { places: 143 }, 4)?;
     assert_eq!(rt; served(house.second(&mut buffer))?, (0, 0));

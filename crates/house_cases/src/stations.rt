@@ -19,19 +19,16 @@ pub(crate) type Eight = Rail<Four, Four>;
 
 pub(crate) type Ten = Rail<Eight, Two>;
 
-pub(crate) type Eleven = Rail<Ten, Seat<Relay>>;
-
-pub(crate) type Twelve = Rail<Eight, Four>;
-
-pub(crate) type Thirteen = Rail<Twelve, Seat<Relay>>;
-
-pub(crate) type Fourteen = Rail<Twelve, Two>;
-
-pub(crate) type Fifteen = Rail<Fourteen, Seat<Relay>>;
-
 pub(crate) type Sixteen = Rail<Eight, Eight>;
 
 type FourChimes = Rail<Rail<Chime, Chime>, Rail<Chime, Chime>>;
+
+type TwelveChimes = Rail<Rail<FourChimes, FourChimes>, FourChimes>;
+
+type ThreeRelays = Rail<Two, Seat<Relay>>;
+
+// Most of them small: proofs and programs grow with the modules that a station has.
+pub(crate) type Small = Rail<TwelveChimes, Rail<ThreeRelays, Seat<Panel>>>;
 
 type SixteenChimes = Rail<Rail<FourChimes, FourChimes>, Rail<FourChimes, FourChimes>>;
 
@@ -117,41 +114,6 @@ pub(crate) fn ten() -> Ten {
     }
 }
 
-pub(crate) fn eleven() -> Eleven {
-    Rail {
-        first: ten(),
-        second: relay(0x1A),
-    }
-}
-
-pub(crate) fn twelve() -> Twelve {
-    Rail {
-        first: first_eight(),
-        second: four([0x18, 0x19, 0x1A, 0x1B]),
-    }
-}
-
-pub(crate) fn thirteen() -> Thirteen {
-    Rail {
-        first: twelve(),
-        second: relay(0x1C),
-    }
-}
-
-pub(crate) fn fourteen() -> Fourteen {
-    Rail {
-        first: twelve(),
-        second: two([0x1C, 0x1D]),
-    }
-}
-
-pub(crate) fn fifteen() -> Fifteen {
-    Rail {
-        first: fourteen(),
-        second: relay(0x1E),
-    }
-}
-
 pub(crate) fn sixteen() -> Sixteen {
     Rail {
         first: first_eight(),
@@ -170,6 +132,26 @@ fn four_chimes(address: u8) -> FourChimes {
         second: Rail {
             first: chime(2),
             second: chime(3),
+        },
+    }
+}
+
+// Twelve chimes at 10 to 1B, relays at 1C, 1D and 1E, and a panel at 20: sixteen seats.
+pub(crate) fn small() -> Small {
+    Rail {
+        first: Rail {
+            first: Rail {
+                first: four_chimes(0x10),
+                second: four_chimes(0x14),
+            },
+            second: four_chimes(0x18),
+        },
+        second: Rail {
+            first: Rail {
+                first: two([0x1C, 0x1D]),
+                second: relay(0x1E),
+            },
+            second: panel(0x20),
         },
     }
 }
