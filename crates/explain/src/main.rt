@@ -52,7 +52,7 @@ fn main(rt: HostRuntime) -> anyhow::Result<()> {
 }
 
 fn explain(rt: &HostRuntime) -> anyhow::Result<()> {
-    let log = read_any(rt)?;
+    let log = read_any(rt.alloc(), rt.reader())?;
     if log.len() == LIMIT {
         eprintln!(rt;
             "explain: read {LIMIT} bytes, which is all that it takes; what follows was not read"
