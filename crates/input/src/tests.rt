@@ -5,14 +5,24 @@ use std::test::Fail;
 
 #[test]
 fn limit(rt: HostRuntime) -> Result<(), Fail> {
-    for (given, taken) in [(0, 0), (1, 1), (59_999, 59_999), (60_000, 60_000), (60_001, 60_000)] {
+    for (given, taken) in [
+        (0, 0),
+        (1, 1),
+        (59_999, 59_999),
+        (60_000, 60_000),
+        (60_001, 60_000),
+    ] {
         let bytes = vec![in rt.alloc(); 2u8; given]?;
-        let log = read_log(rt.alloc(), bytes.as_slice(), Form::Binary).map_err(|_| Fail::new("unread"))?;
+        let log = read_log(rt.alloc(), bytes.as_slice(), Form::Binary).map_err(|_| Fail::new(
+            "unread",
+        ))?;
         assert_eq!(rt; log.len(), taken, "of {given}");
         let log = read_any(rt.alloc(), bytes.as_slice()).map_err(|_| Fail::new("unread"))?;
         assert_eq!(rt; log.len(), taken, "of {given} in either form");
         let digits = vec![in rt.alloc(); b'2'; 2 * given]?;
-        let log = read_log(rt.alloc(), digits.as_slice(), Form::Hex).map_err(|_| Fail::new("unread"))?;
+        let log = read_log(rt.alloc(), digits.as_slice(), Form::Hex).map_err(|_| Fail::new(
+            "unread",
+        ))?;
         assert_eq!(rt; log.len(), taken, "of {given} as text");
     }
     Ok(())
