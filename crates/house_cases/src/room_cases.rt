@@ -1,7 +1,7 @@
 // Room on the bus: with N relays and p pending frames a step is served if p - 1 + 9 N is at most 256. So it is served
 // up to p = 257 - 9 N, and refused with 10 from there on.
 use crate::calls::{mark, refuses, served, steps};
-use crate::stations::{house_over, sixteen, ten};
+use crate::stations::{house_over, ten};
 use bus::Frame;
 use house::{Call, House};
 use station::Station;
@@ -89,9 +89,4 @@ fn stops_at<S: Station + Drop>(
 #[test]
 fn ten_relays(rt: HostRuntime) -> Result<(), Fail> {
     stops_at(&rt, ten(), 0x1A, 167)
-}
-
-#[test]
-fn sixteen_relays(rt: HostRuntime) -> Result<(), Fail> {
-    stops_at(&rt, sixteen(), 0x14, 113)
 }

@@ -19,8 +19,6 @@ pub(crate) type Eight = Rail<Four, Four>;
 
 pub(crate) type Ten = Rail<Eight, Two>;
 
-pub(crate) type Sixteen = Rail<Eight, Eight>;
-
 type FourChimes = Rail<Rail<Chime, Chime>, Rail<Chime, Chime>>;
 
 type TwelveChimes = Rail<Rail<FourChimes, FourChimes>, FourChimes>;
@@ -111,13 +109,6 @@ pub(crate) fn ten() -> Ten {
     Rail {
         first: first_eight(),
         second: two([0x18, 0x19]),
-    }
-}
-
-pub(crate) fn sixteen() -> Sixteen {
-    Rail {
-        first: first_eight(),
-        second: eight([0x18, 0x19, 0x1A, 0x1B, 0x1C, 0x1D, 0x1E, 0x1F]),
     }
 }
 
