@@ -1,4 +1,8 @@
 // What is wrong with a frame.
+ghost use Rattle.std.specs.Prelude.{◌≡◌};
+ghost use Rattle.std.specs.Option.{is_none};
+ghost use Rattle.bus.specs.Frames.{well_formed};
+
 use bus::Frame;
 use std::fmt;
 
@@ -16,7 +20,9 @@ pub enum Flaw {
 
 impl Flaw {
     // None if the frame is well formed.
-    pub fn of(frame: &Frame) -> Option<Self> {
+    pub fn of(frame: &Frame) -> Option<Self>
+        ensures { is_none result ≡ well_formed frame.now }
+    {
         match *frame {
             Frame { priority: 4.., .. } => Some(Flaw::Priority(frame.priority)),
             Frame { rtr: 2.., .. } => Some(Flaw::Rtr(frame.rtr)),

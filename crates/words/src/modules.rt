@@ -1,4 +1,7 @@
 // Modules by kind and address.
+ghost use Rattle.std.specs.Prelude.{◌≡◌};
+ghost use Rattle.words.specs.Sizes.{cells_of};
+
 use std::collections::BTreeMap;
 use std::fmt;
 
@@ -11,7 +14,9 @@ pub enum ModuleType {
 
 impl ModuleType {
     // How many cells its memory has; in its record, the state bytes follow them.
-    pub fn cells(self) -> usize {
+    pub fn cells(self) -> usize
+        ensures { result ≡ cells_of self }
+    {
         match self {
             ModuleType::Panel => 256,
             ModuleType::Relay | ModuleType::Buttons => 1024,

@@ -1,4 +1,6 @@
 // Numbers that a byte names by its bits.
+ghost use Rattle.std.specs.Prelude.{◌≡◌};
+
 use std::fmt;
 
 // The numbers from 1 to 8 whose bits are set, or the word none.
@@ -37,22 +39,28 @@ pub struct Several {
 }
 
 impl Several {
-    pub fn channels(bits: u8) -> Self {
-        Several {
-            noun: "channel",
-            bits,
-        }
+    fn named(noun: &'static str, bits: u8) -> Self
+        ensures { result.bits ≡ bits }
+    {
+        Several { noun, bits }
     }
 
-    pub fn buttons(bits: u8) -> Self {
-        Several {
-            noun: "button",
-            bits,
-        }
+    pub fn channels(bits: u8) -> Self
+        ensures { result.bits ≡ bits }
+    {
+        Several::named("channel", bits)
     }
 
-    pub fn lamps(bits: u8) -> Self {
-        Several { noun: "lamp", bits }
+    pub fn buttons(bits: u8) -> Self
+        ensures { result.bits ≡ bits }
+    {
+        Several::named("button", bits)
+    }
+
+    pub fn lamps(bits: u8) -> Self
+        ensures { result.bits ≡ bits }
+    {
+        Several::named("lamp", bits)
     }
 }
 
