@@ -1,6 +1,6 @@
 // A chime at 21, which is no module of the collection, under a sieve beside those that are.
 use crate::calls::{served, steps};
-use crate::stations::{Kinds, house_over, kinds};
+use crate::stations::{Kinds, chime, house_over, kinds};
 use bus::Frame;
 use chime::Chime;
 use house::{Call, House};
@@ -11,13 +11,10 @@ use std::test::*;
 
 type WithChime = Rail<Kinds, Sieve<Chime>>;
 
-// Its tone is 5.
 fn with_chime() -> WithChime {
     Rail {
         first: kinds(),
-        second: Sieve {
-            below: Chime::new(0x21, 5),
-        },
+        second: Sieve { below: chime(0x21) },
     }
 }
 

@@ -1,21 +1,18 @@
-// The groups of a house. Relays stand at 11 to 14; a relay links an address by a pair of its toggle table, whose address
-// bytes are at 3C, 3E, and so on.
+// The groups of a house. Chimes stand at 11 to 14; a chime links the one address that it follows.
 use crate::calls::{served, steps};
-use crate::stations::{four, house_over, kinds, seventeen, two};
+use crate::stations::{four, house_over, kinds, seventeen};
 use bus::{Frame, Refusal};
 use house::House;
 use station::Station;
 use std::process::Abort;
 use std::test::*;
 
-// Each of these links is written to the memory of its relay, each in a pair of its own.
+// In each pair the first shall follow the second.
 fn link<S: Station>(rt: &impl Abort, house: &mut House<S>, links: &[(u8, u8)]) -> Result<(), Fail> {
-    let mut cell = 0x3C;
-    for (relay, address) in links.iter().copied() {
-        let write = Frame::new(3, relay, 4, [0xFC, 0, cell, address, 0, 0, 0, 0]);
-        served(house.put(write))?;
+    for (address, followed) in links.iter().copied() {
+        let follow = Frame::new(3, address, 3, [0xA0, followed, 1, 0, 0, 0, 0, 0]);
+        served(house.put(follow))?;
         steps(rt, house, 1, 0)?;
-        cell = cell.wrapping_add(2);
     }
     Ok(())
 }
@@ -115,17 +112,29 @@ fn record_of_an_interface(rt: HostRuntime) -> Result<(), Fail> {
     lists(&rt, &house, 0x10, &[0x10])
 }
 
+// Pairs 0 and 1 of the toggle table of channel 1 of the relay at 10 have their addresses at 003C and 003E.
+#[test]
+fn pairs_of_a_relay(rt: HostRuntime) -> Result<(), Fail> {
+    let mut house = house_over(rt.alloc(), kinds())?;
+    served(house.put(Frame::new(3, 0x10, 7, [0xCA, 0, 0x3C, 0x20, 0x01, 0x05, 0x80, 0])))?;
+    steps(&rt, &mut house, 1, 1)?;
+    served(house.clear())?;
+    lists(&rt, &house, 0x20, &[0x05, 0x10, 0x20])?;
+    lists(&rt, &house, 0x10, &[0x05, 0x10, 0x20])?;
+    lists(&rt, &house, 0x30, &[0x30])
+}
+
 // The builder's faults come before a short buffer, and that before a missing seat.
 #[test]
 fn refused_groups(rt: HostRuntime) -> Result<(), Fail> {
-    let house = house_over(rt.alloc(), two([0x11, 0x12]))?;
+    let house = house_over(rt.alloc(), four([0x11, 0x12, 0x14, 0x15]))?;
     refuses(&rt, &house, 0x13, &mut [7; 253], 4)?;
     refuses(&rt, &house, 0x11, &mut [7; 253], 4)?;
     refuses(&rt, &house, 0x13, &mut [7; 254], 6)?;
-    let house = house_over(rt.alloc(), two([0x11, 0]))?;
+    let house = house_over(rt.alloc(), four([0x11, 0, 0x14, 0x15]))?;
     refuses(&rt, &house, 0x13, &mut [7; 253], 1)?;
-    let house = house_over(rt.alloc(), two([0x11, 0x11]))?;
+    let house = house_over(rt.alloc(), four([0x11, 0x11, 0x14, 0x15]))?;
     refuses(&rt, &house, 0x13, &mut [7; 253], 2)?;
-    let house = house_over(rt.alloc(), seventeen(0x20))?;
+    let house = house_over(rt.alloc(), seventeen([0x10, 0x11, 0x12, 0x13], 0x20))?;
     refuses(&rt, &house, 0x10, &mut [7; 254], 3)
 }

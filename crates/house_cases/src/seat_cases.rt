@@ -1,6 +1,6 @@
 // Houses of 16 seats, which is the most, and houses that were put together wrongly.
 use crate::calls::{mark, refuses, served};
-use crate::stations::{house_over, panel, relay, seventeen, small, two};
+use crate::stations::{chime, four, house_over, panel, seventeen, sixteen};
 use bus::Frame;
 use house::{Call, House};
 use station::{Rail, Sieve, Station};
@@ -44,54 +44,54 @@ fn faulty<S: Station + Drop>(
     Ok(house)
 }
 
-// Sixteen seats take 144 places.
+// Sixteen seats take 144 places. A chime strikes when its one button is pressed.
 #[test]
 fn sixteen_seats(rt: HostRuntime) -> Result<(), Fail> {
-    let mut house = house_over(rt.alloc(), small())?;
+    let mut house = house_over(rt.alloc(), sixteen([0x10, 0x11, 0x12, 0x13]))?;
     let mut buffer = [mark(); 144];
     refuses(&rt, &mut house, Call::Second { places: 143 }, 4)?;
     assert_eq!(rt; served(house.second(&mut buffer))?, (0, 0));
-    assert_eq!(rt; served(house.push(0x20, 8, 0, &mut buffer))?, (1, 1));
+    assert_eq!(rt; served(house.push(0x1F, 1, 0, &mut buffer))?, (1, 1));
     refuses(&rt, &mut house, Call::Step { places: 143 }, 4)?;
     assert_eq!(rt; served(house.step(&mut buffer))?, (0, 0));
     served(house.put(mark()))?;
     assert_eq!(rt; served(house.clear())?, 1);
-    assert_eq!(rt; house.record(0x1E, 1039), Some(0));
-    assert_eq!(rt; house.record(0x20, 259), Some(0x80));
+    assert_eq!(rt; house.record(0x1F, 38), Some(0));
+    assert_eq!(rt; house.record(0x10, 36), Some(0xFF));
     Ok(())
 }
 
-// A chime has 37 cells and 2 state bytes. The record of the last seat is answered too.
+// A chime has 37 cells and 2 state bytes, a panel 256 and 4. The record of the last seat is answered too.
 #[test]
 fn seventeen_seats(rt: HostRuntime) -> Result<(), Fail> {
-    let house = faulty(&rt, seventeen(0x20), 3)?;
+    let house = faulty(&rt, seventeen([0x10, 0x11, 0x12, 0x13], 0x20), 3)?;
     assert_eq!(rt; house.record(0x10, 36), Some(0xFF));
     assert_eq!(rt; house.record(0x1F, 38), Some(0));
     assert_eq!(rt; house.record(0x1F, 39), None);
-    assert_eq!(rt; house.record(0x20, 1023), Some(0xFF));
-    assert_eq!(rt; house.record(0x20, 1040), None);
+    assert_eq!(rt; house.record(0x20, 255), Some(0xFF));
+    assert_eq!(rt; house.record(0x20, 260), None);
     Ok(())
 }
 
-// A panel has 256 cells and 4 state bytes, a relay 1,024 and 16. The record is that of the first one.
+// The record is that of the first one.
 #[test]
 fn one_address_twice(rt: HostRuntime) -> Result<(), Fail> {
     let panel_first = Rail {
         first: panel(0x20),
-        second: relay(0x20),
+        second: chime(0x20),
     };
     let house = faulty(&rt, panel_first, 2)?;
     assert_eq!(rt; house.record(0x20, 255), Some(0xFF));
     assert_eq!(rt; house.record(0x20, 259), Some(0));
     assert_eq!(rt; house.record(0x20, 260), None);
-    let relay_first = Rail {
-        first: relay(0x20),
+    let chime_first = Rail {
+        first: chime(0x20),
         second: panel(0x20),
     };
-    let house = faulty(&rt, relay_first, 2)?;
-    assert_eq!(rt; house.record(0x20, 259), Some(0xFF));
-    assert_eq!(rt; house.record(0x20, 1039), Some(0));
-    assert_eq!(rt; house.record(0x20, 1040), None);
+    let house = faulty(&rt, chime_first, 2)?;
+    assert_eq!(rt; house.record(0x20, 36), Some(0xFF));
+    assert_eq!(rt; house.record(0x20, 38), Some(0));
+    assert_eq!(rt; house.record(0x20, 39), None);
     Ok(())
 }
 
@@ -101,27 +101,27 @@ fn one_address_twice_under_a_sieve(rt: HostRuntime) -> Result<(), Fail> {
     let station = Rail {
         first: Sieve { below: panel(0x20) },
         second: Rail {
-            first: relay(0x10),
-            second: relay(0x20),
+            first: chime(0x10),
+            second: chime(0x20),
         },
     };
     let house = faulty(&rt, station, 2)?;
     assert_eq!(rt; house.record(0x20, 260), None);
-    assert_eq!(rt; house.record(0x10, 1024), Some(0));
+    assert_eq!(rt; house.record(0x10, 38), Some(0));
     Ok(())
 }
 
 #[test]
 fn address_0(rt: HostRuntime) -> Result<(), Fail> {
     let station = Rail {
-        first: relay(0x10),
+        first: chime(0x10),
         second: panel(0),
     };
     let house = faulty(&rt, station, 1)?;
     assert_eq!(rt; house.record(0, 0), Some(0xFF));
     assert_eq!(rt; house.record(0, 259), Some(0));
     assert_eq!(rt; house.record(0, 260), None);
-    assert_eq!(rt; house.record(0x10, 1024), Some(0));
+    assert_eq!(rt; house.record(0x10, 38), Some(0));
     Ok(())
 }
 
@@ -129,7 +129,7 @@ fn address_0(rt: HostRuntime) -> Result<(), Fail> {
 fn address_255(rt: HostRuntime) -> Result<(), Fail> {
     let station = Rail {
         first: panel(0xFF),
-        second: relay(0x10),
+        second: chime(0x10),
     };
     let house = faulty(&rt, station, 1)?;
     assert_eq!(rt; house.record(0xFF, 255), Some(0xFF));
@@ -141,36 +141,24 @@ fn address_255(rt: HostRuntime) -> Result<(), Fail> {
 // Of two faults the smaller is told, whichever seats have it.
 #[test]
 fn two_faults(rt: HostRuntime) -> Result<(), Fail> {
-    let late_zero = Rail {
-        first: two([0x20, 0x20]),
-        second: panel(0),
-    };
-    faulty(&rt, late_zero, 1)?;
-    let early_zero = Rail {
-        first: panel(0),
-        second: two([0x20, 0x20]),
-    };
-    let house = faulty(&rt, early_zero, 1)?;
-    assert_eq!(rt; house.record(0x20, 1039), Some(0));
-    faulty(&rt, two([0, 0]), 1)?;
-    faulty(&rt, two([0xFF, 0xFF]), 1)?;
+    faulty(&rt, four([0x20, 0x20, 0x21, 0]), 1)?;
+    let house = faulty(&rt, four([0, 0x20, 0x20, 0x21]), 1)?;
+    assert_eq!(rt; house.record(0x20, 38), Some(0));
+    faulty(&rt, four([0, 0, 0x20, 0x21]), 1)?;
+    faulty(&rt, four([0xFF, 0x20, 0x21, 0xFF]), 1)?;
     Ok(())
 }
 
 #[test]
 fn seventeen_seats_and_another_fault(rt: HostRuntime) -> Result<(), Fail> {
-    let house = faulty(&rt, seventeen(0x10), 2)?;
+    let house = faulty(&rt, seventeen([0x10, 0x11, 0x12, 0x13], 0x10), 2)?;
     assert_eq!(rt; house.record(0x1F, 37), Some(0));
     // of the chime, which stands first
     assert_eq!(rt; house.record(0x10, 39), None);
-    let house = faulty(&rt, seventeen(0xFF), 1)?;
-    assert_eq!(rt; house.record(0xFF, 1023), Some(0xFF));
-    // the 18th seat
-    let all_three = Rail {
-        first: seventeen(0x10),
-        second: panel(0),
-    };
-    let house = faulty(&rt, all_three, 1)?;
+    let house = faulty(&rt, seventeen([0x10, 0x11, 0x12, 0x13], 0xFF), 1)?;
+    assert_eq!(rt; house.record(0xFF, 255), Some(0xFF));
+    // all three
+    let house = faulty(&rt, seventeen([0x10, 0x10, 0x12, 0x13], 0), 1)?;
     assert_eq!(rt; house.record(0, 259), Some(0));
     Ok(())
 }

@@ -1,4 +1,4 @@
-// Houses of one to 17 modules.
+// Houses of one to 17 modules. Chimes, which are small, wherever it does not matter which module stands there.
 use buttons::ButtonInterface;
 use chime::Chime;
 use house::House;
@@ -11,26 +11,11 @@ use station::{Rail, Station};
 use std::alloc::Global;
 use std::test::*;
 
-pub(crate) type Two = Rail<Seat<Relay>, Seat<Relay>>;
+pub(crate) type FourChimes = Rail<Rail<Chime, Chime>, Rail<Chime, Chime>>;
 
-type Four = Rail<Two, Two>;
+pub(crate) type SixteenChimes = Rail<Rail<FourChimes, FourChimes>, Rail<FourChimes, FourChimes>>;
 
-pub(crate) type Eight = Rail<Four, Four>;
-
-pub(crate) type Ten = Rail<Eight, Two>;
-
-type FourChimes = Rail<Rail<Chime, Chime>, Rail<Chime, Chime>>;
-
-type TwelveChimes = Rail<Rail<FourChimes, FourChimes>, FourChimes>;
-
-type ThreeRelays = Rail<Two, Seat<Relay>>;
-
-// Most of them small: proofs and programs grow with the modules that a station has.
-pub(crate) type Small = Rail<TwelveChimes, Rail<ThreeRelays, Seat<Panel>>>;
-
-type SixteenChimes = Rail<Rail<FourChimes, FourChimes>, Rail<FourChimes, FourChimes>>;
-
-pub(crate) type Seventeen = Rail<SixteenChimes, Seat<Relay>>;
+pub(crate) type Seventeen = Rail<SixteenChimes, Seat<Panel>>;
 
 // A button interface at 30, a panel at 20 and a relay at 10, in this order.
 pub(crate) type Kinds = Rail<Seat<ButtonInterface>, Rail<Seat<Panel>, Seat<Relay>>>;
@@ -55,6 +40,11 @@ pub(crate) fn panel(address: u8) -> Seat<Panel> {
     new_panel(address, PanelSetup { year: 8, week: 17 })
 }
 
+// Its tone is 5.
+pub(crate) fn chime(address: u8) -> Chime {
+    Chime::new(address, 5)
+}
+
 pub(crate) fn kinds() -> Kinds {
     let setup = InterfaceSetup {
         serial: Serial {
@@ -74,93 +64,40 @@ pub(crate) fn kinds() -> Kinds {
     }
 }
 
-// Relays at these addresses.
-pub(crate) fn two(addresses: [u8; 2]) -> Two {
-    let [a, b] = addresses;
-    Rail {
-        first: relay(a),
-        second: relay(b),
-    }
-}
-
-pub(crate) fn four(addresses: [u8; 4]) -> Four {
+// Chimes at these addresses.
+pub(crate) fn four(addresses: [u8; 4]) -> FourChimes {
     let [a, b, c, d] = addresses;
     Rail {
-        first: two([a, b]),
-        second: two([c, d]),
-    }
-}
-
-pub(crate) fn eight(addresses: [u8; 8]) -> Eight {
-    let [a, b, c, d, e, f, g, h] = addresses;
-    Rail {
-        first: four([a, b, c, d]),
-        second: four([e, f, g, h]),
-    }
-}
-
-// At 10 to 17.
-fn first_eight() -> Eight {
-    eight([0x10, 0x11, 0x12, 0x13, 0x14, 0x15, 0x16, 0x17])
-}
-
-// From here on each has the addresses from 10 up.
-pub(crate) fn ten() -> Ten {
-    Rail {
-        first: first_eight(),
-        second: two([0x18, 0x19]),
-    }
-}
-
-// At this address and the three after it.
-fn four_chimes(address: u8) -> FourChimes {
-    let chime = |n: u8| Chime::new(address.wrapping_add(n), 5);
-    Rail {
         first: Rail {
-            first: chime(0),
-            second: chime(1),
+            first: chime(a),
+            second: chime(b),
         },
         second: Rail {
-            first: chime(2),
-            second: chime(3),
+            first: chime(c),
+            second: chime(d),
         },
     }
 }
 
-// Twelve chimes at 10 to 1B, relays at 1C, 1D and 1E, and a panel at 20: sixteen seats.
-pub(crate) fn small() -> Small {
+// Four at addresses of choice, then twelve at 14 to 1F.
+pub(crate) fn sixteen(addresses: [u8; 4]) -> SixteenChimes {
     Rail {
         first: Rail {
-            first: Rail {
-                first: four_chimes(0x10),
-                second: four_chimes(0x14),
-            },
-            second: four_chimes(0x18),
+            first: four(addresses),
+            second: four([0x14, 0x15, 0x16, 0x17]),
         },
         second: Rail {
-            first: Rail {
-                first: two([0x1C, 0x1D]),
-                second: relay(0x1E),
-            },
-            second: panel(0x20),
+            first: four([0x18, 0x19, 0x1A, 0x1B]),
+            second: four([0x1C, 0x1D, 0x1E, 0x1F]),
         },
     }
 }
 
-// Sixteen chimes, which are small, at 10 to 1F, and a relay at an address of choice.
-pub(crate) fn seventeen(last: u8) -> Seventeen {
+// A panel at an address of choice behind sixteen chimes.
+pub(crate) fn seventeen(addresses: [u8; 4], last: u8) -> Seventeen {
     Rail {
-        first: Rail {
-            first: Rail {
-                first: four_chimes(0x10),
-                second: four_chimes(0x14),
-            },
-            second: Rail {
-                first: four_chimes(0x18),
-                second: four_chimes(0x1C),
-            },
-        },
-        second: relay(last),
+        first: sixteen(addresses),
+        second: panel(last),
     }
 }
 
