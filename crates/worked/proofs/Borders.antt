@@ -38,42 +38,43 @@ same_eq true false h = absurd (false≢true h)
 same_eq false true h = absurd (false≢true h)
 same_eq false false h = refl
 
--- an address that cannot be linked, or is on that side of the border
-abbrev fine : Bool → ℕ → Bool
-fine side a = nat_le 255 a || same side (group a)
+module _ (g : ℕ → Bool) where
+  -- an address that cannot be linked, or is on that side of the border
+  abbrev fine : Bool → ℕ → Bool
+  fine side a = nat_le 255 a || same side (g a)
 
--- the address of pair p of channel c is neither
-abbrev stray : Bool → List ℕ → ℕ → ℕ → Bool
-stray side cells c p = not (fine side (slice_index cells (pair_cell c p)))
+  -- the address of pair p of channel c is neither
+  abbrev stray : Bool → List ℕ → ℕ → ℕ → Bool
+  stray side cells c p = not (fine side (slice_index cells (pair_cell c p)))
 
--- some pair of channel c has such an address
-abbrev stray_in : Bool → List ℕ → ℕ → Bool
-stray_in side cells c = is_some (first (stray side cells c) 0 120)
+  -- some pair of channel c has such an address
+  abbrev stray_in : Bool → List ℕ → ℕ → Bool
+  stray_in side cells c = is_some (first (stray side cells c) 0 120)
 
--- some pair of the cells has such an address. This is no abbreviation, so that it is computed only where it is wanted
-pub some_stray : Bool → List ℕ → Bool
-some_stray side cells = stray_in side cells 0 || (stray_in side cells 1 || (stray_in side cells 2 || stray_in side cells 3))
+  -- some pair of the cells has such an address. This is no abbreviation, so that it is computed only where it is wanted
+  pub some_stray : Bool → List ℕ → Bool
+  some_stray side cells = stray_in side cells 0 || (stray_in side cells 1 || (stray_in side cells 2 || stray_in side cells 3))
 
-module _ (side : Bool) (cells : List ℕ) (a : ℕ) where
-  fine_in : (c : ℕ) → stray_in side cells c ≡ false → named_in cells c a ≡ true → fine side a ≡ true
+module _ (g : ℕ → Bool) (side : Bool) (cells : List ℕ) (a : ℕ) where
+  fine_in : (c : ℕ) → stray_in g side cells c ≡ false → named_in cells c a ≡ true → fine g side a ≡ true
   fine_in c none h =
       let q : Query = record { address = a; buttons = None } in
       let at : (p : ℕ) → ℕ = λ p. slice_index cells (pair_cell c p) in
-      elim (cases_Bool (fine side a)) [
+      elim (cases_Bool (fine g side a)) [
         | inl e ↦ e
         | inr e ↦
-            let matched : (p : ℕ) → matches cells c q p ≡ true → stray side cells c p ≡ true = λ p m.
+            let matched : (p : ℕ) → matches cells c q p ≡ true → stray g side cells c p ≡ true = λ p m.
             let rest = and_parts (at p == a) true (and_parts (not (table p == 3)) (at p == a && true) m).1 in
-            ap (λ x. not (fine side x)) (eqb-true (at p) a rest.0) ∙ ap not e in
-            absurd (both_ways (stray_in side cells c) none (found_too (matches cells c q) (stray side cells c) matched 0 120 h))
+            ap (λ x. not (fine g side x)) (eqb-true (at p) a rest.0) ∙ ap not e in
+            absurd (both_ways (stray_in g side cells c) none (found_too (matches cells c q) (stray g side cells c) matched 0 120 h))
       ]
 
-  fine_named : some_stray side cells ≡ false → named cells a ≡ true → fine side a ≡ true
+  fine_named : some_stray g side cells ≡ false → named cells a ≡ true → fine g side a ≡ true
   unfolding some_stray
   fine_named none h =
-      let one = or_parts (stray_in side cells 0) _ none in
-      let two = or_parts (stray_in side cells 1) _ one.1 in
-      let three = or_parts (stray_in side cells 2) _ two.1 in
+      let one = or_parts (stray_in g side cells 0) _ none in
+      let two = or_parts (stray_in g side cells 1) _ one.1 in
+      let three = or_parts (stray_in g side cells 2) _ two.1 in
       elim (or_cases (named_in cells 0 a) _ h) [
         | inl l ↦ fine_in 0 one.0 l
         | inr r ↦
@@ -87,17 +88,17 @@ module _ (side : Bool) (cells : List ℕ) (a : ℕ) where
 abbrev pub Within : (ℕ → Bool) → Seat → Type 0
 Within g s = (c : ℕ) → links s.kind s.address s.content c ≡ true → g s.address ≡ g c
 
-pub relay_within : (s : RelaySetup) (own : ℕ) (r : Record) → some_stray (group own) r.cells ≡ false → Within group (record { kind = relay_kind s; address = own; content = r })
-relay_within s own r none c l =
-    let inside = and_parts (nat_lt c 255) _ (and_parts (nat_lt 0 c) _ l).1 in
-    let below : c < 255 = ltb-true c 255 inside.0 in
-    let named_c : named r.cells c ≡ true = (and_parts (not (c == own)) (named r.cells c) inside.1).1 in
-    elim (or_cases (nat_le 255 c) (same (group own) (group c)) (fine_named (group own) r.cells c none named_c)) [
-      | inl e ↦ absurd (omega (arith, leb-true 255 c e))
-      | inr e ↦ same_eq (group own) (group c) e
-    ]
-
 module _ (g : ℕ → Bool) where
+  pub relay_within : (s : RelaySetup) (own : ℕ) (r : Record) → some_stray g (g own) r.cells ≡ false → Within g (record { kind = relay_kind s; address = own; content = r })
+  relay_within s own r none c l =
+      let inside = and_parts (nat_lt c 255) _ (and_parts (nat_lt 0 c) _ l).1 in
+      let below : c < 255 = ltb-true c 255 inside.0 in
+      let named_c : named r.cells c ≡ true = (and_parts (not (c == own)) (named r.cells c) inside.1).1 in
+      elim (or_cases (nat_le 255 c) (same (g own) (g c)) (fine_named g (g own) r.cells c none named_c)) [
+        | inl e ↦ absurd (omega (arith, leb-true 255 c e))
+        | inr e ↦ same_eq (g own) (g c) e
+      ]
+
   -- a panel links nothing
   pub panel_within : (s : PanelSetup) (own : ℕ) (r : Record) → Within g (record { kind = panel_kind s; address = own; content = r })
   panel_within s own r c l = absurd (false≢true (and_parts (not (c == own)) false (and_parts (nat_lt c 255) _ (and_parts (nat_lt 0 c) _ l).1).1).1)
@@ -118,15 +119,23 @@ module _ (g : ℕ → Bool) where
       ]
 
 -- the cells without links have no such pair, and the linked ones neither
-pub none_stray : (side : Bool) → some_stray side no_links ≡ false
+pub none_stray : (side : Bool) → some_stray group side no_links ≡ false
 unfolding first some_stray
 none_stray true = refl
 none_stray false = refl
 
-pub none_stray_here : some_stray true (linked_cells 0x20) ≡ false
+pub none_stray_here : some_stray group true (linked_cells 0x20) ≡ false
 unfolding first some_stray
 none_stray_here = refl
 
-pub none_stray_there : some_stray false (linked_cells 0x40) ≡ false
+pub none_stray_there : some_stray group false (linked_cells 0x40) ≡ false
 unfolding first some_stray
 none_stray_there = refl
+
+-- the relay and the panel that it links, alone
+abbrev pub pair : ℕ → Bool
+pair a = a == 0x10 || a == 0x20
+
+pub none_stray_of_pair : some_stray pair true (linked_cells 0x20) ≡ false
+unfolding first some_stray
+none_stray_of_pair = refl

@@ -52,7 +52,7 @@ record HereKept (ss : List Seat) : Type 0 where
   b : Record
   c : Record
   seats : ss ≡ here_with a b c
-  relay : some_stray true b.cells ≡ false
+  relay : some_stray group true b.cells ≡ false
 
 record ThereKept (ss : List Seat) : Type 0 where
   a : Record
@@ -60,37 +60,37 @@ record ThereKept (ss : List Seat) : Type 0 where
   c : Record
   d : Record
   seats : ss ≡ there_with a b c d
-  relay : some_stray true a.cells ≡ false
-  other : some_stray false d.cells ≡ false
+  relay : some_stray group true a.cells ≡ false
+  other : some_stray group false d.cells ≡ false
 
 here_uncrossed : (ss : List Seat) → HereKept ss → Uncrossed group ss
 here_uncrossed ss k =
     subst (Uncrossed group) (sym k.seats)
-    (uncrossed group (here_with k.a k.b k.c) (panel_within group panel_setup _ k.a, (relay_within relay_setup _ k.b k.relay, (panel_within group panel_setup _ k.c, tt))))
+    (uncrossed group (here_with k.a k.b k.c) (panel_within group panel_setup _ k.a, (relay_within group relay_setup _ k.b k.relay, (panel_within group panel_setup _ k.c, tt))))
 
 there_uncrossed : (ss : List Seat) → ThereKept ss → Uncrossed group ss
 there_uncrossed ss k =
     subst (Uncrossed group) (sym k.seats)
-    (uncrossed group (there_with k.a k.b k.c k.d) (relay_within relay_setup _ k.a k.relay, (panel_within group panel_setup _ k.b, (panel_within group panel_setup _ k.c, (relay_within relay_setup _ k.d k.other, (chime_inside group refl, tt))))))
+    (uncrossed group (there_with k.a k.b k.c k.d) (relay_within group relay_setup _ k.a k.relay, (panel_within group panel_setup _ k.b, (panel_within group panel_setup _ k.c, (relay_within group relay_setup _ k.d k.other, (chime_inside group refl, tt))))))
 
 -- before and after the write of the link
 module _ {ss : List Seat} {a b c : Record} (e : ss ≡ here_with a b c) where
   here_new : b.cells ≡ no_links → HereKept ss
-  here_new f = record { a = a; b = b; c = c; seats = e; relay = ap (some_stray true) f ∙ none_stray true }
+  here_new f = record { a = a; b = b; c = c; seats = e; relay = ap (some_stray group true) f ∙ none_stray true }
 
   here_linked : b.cells ≡ linked_cells 0x20 → HereKept ss
-  here_linked f = record { a = a; b = b; c = c; seats = e; relay = ap (some_stray true) f ∙ none_stray_here }
+  here_linked f = record { a = a; b = b; c = c; seats = e; relay = ap (some_stray group true) f ∙ none_stray_here }
 
 -- before both writes, between them, and after both
 module _ {ss : List Seat} {a b c d : Record} (e : ss ≡ there_with a b c d) where
   there_new : a.cells ≡ no_links → d.cells ≡ no_links → ThereKept ss
-  there_new f g = record { a = a; b = b; c = c; d = d; seats = e; relay = ap (some_stray true) f ∙ none_stray true; other = ap (some_stray false) g ∙ none_stray false }
+  there_new f g = record { a = a; b = b; c = c; d = d; seats = e; relay = ap (some_stray group true) f ∙ none_stray true; other = ap (some_stray group false) g ∙ none_stray false }
 
   there_half : a.cells ≡ no_links → d.cells ≡ linked_cells 0x40 → ThereKept ss
-  there_half f g = record { a = a; b = b; c = c; d = d; seats = e; relay = ap (some_stray true) f ∙ none_stray true; other = ap (some_stray false) g ∙ none_stray_there }
+  there_half f g = record { a = a; b = b; c = c; d = d; seats = e; relay = ap (some_stray group true) f ∙ none_stray true; other = ap (some_stray group false) g ∙ none_stray_there }
 
   there_linked : a.cells ≡ linked_cells 0x20 → d.cells ≡ linked_cells 0x40 → ThereKept ss
-  there_linked f g = record { a = a; b = b; c = c; d = d; seats = e; relay = ap (some_stray true) f ∙ none_stray_here; other = ap (some_stray false) g ∙ none_stray_there }
+  there_linked f g = record { a = a; b = b; c = c; d = d; seats = e; relay = ap (some_stray group true) f ∙ none_stray_here; other = ap (some_stray group false) g ∙ none_stray_there }
 
 -- the houses on the way
 abbrev here_with_link : ℕ → ℕ → ℕ → ℕ → List Seat

@@ -1,1 +1,2 @@
 pub mod WorkedRun
+pub mod Denied
