@@ -4,3 +4,4 @@ mod Replies
 mod Holding
 mod StatusBits
 mod Clocks
+mod Examples

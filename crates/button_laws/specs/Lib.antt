@@ -2,3 +2,4 @@ pub mod Interfaces
 pub mod Holding
 pub mod ModuleStatus
 pub mod Clocks
+pub mod Examples

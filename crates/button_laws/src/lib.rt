@@ -2,6 +2,8 @@
 #![tactic(auto)]
 
 ghost use Rattle.button_laws.specs.Clocks.{NewClockIsReal, ClockStaysReal, EveryTimeShownIsReal, ClockKeepsTime, ClockIsSet, SetOnlyForAll, ClockIsTold};
+ghost use Rattle.interface.specs.declared.setup.InterfaceSetup.{InterfaceSetup};
+ghost use Rattle.button_laws.specs.Examples.{LinksAct, AsksOrNot, SetsOrNot};
 ghost use Rattle.button_laws.specs.Holding.{HoldEnds, HoldStays, LockSetsTheHold, LockEnds, UnlockFrees, RecordsActInOrder, SingleRecordObeyed, LinkedLockEnds, LinkedUnlockFrees, LockedIgnoresPushes, SilentWhileHeld, PushesKeepTheRest};
 ghost use Rattle.button_laws.specs.ModuleStatus.{StatusIsTold, TypeIsTold};
 ghost use Rattle.button_laws.specs.Interfaces.{EveryInterface};
@@ -47,6 +49,15 @@ pub fn clock_laws() -> u8
     ensures clock_is_set { EveryInterface ClockIsSet }
     ensures set_only_for_all { EveryInterface SetOnlyForAll }
     ensures clock_is_told { EveryInterface ClockIsTold }
+{
+    0
+}
+
+// For each condition of these laws, what meets it and what does not.
+pub fn conditions_are_met() -> u8
+    ensures links { (s : InterfaceSetup) → LinksAct s }
+    ensures asks { (s : InterfaceSetup) → AsksOrNot s }
+    ensures sets { SetsOrNot }
 {
     0
 }

@@ -5,7 +5,7 @@ use bus::Frame;
 use chime::Chime;
 use house::{Call, House};
 use runs::{Reply, replay};
-use station::{Rail, Sieve};
+use station::{Rail, Sieve, Station};
 use std::process::Abort;
 use std::test::*;
 
@@ -31,6 +31,13 @@ const STEP: Call = Call::Step { places: 36 };
 // It follows the panel at 20, whose button is pressed: it strikes three times, and each stroke passes without effect.
 #[test]
 fn replayed(rt: HostRuntime) -> Result<(), Fail> {
+    replayed_over(&rt, with_chime())
+}
+
+fn replayed_over<S: Station + Drop>(
+    rt: &(impl Abort + AllocGlobal),
+    station: S,
+) -> Result<(), Fail> {
     let press = Call::Push {
         address: 0x20,
         channel: 1,
@@ -38,7 +45,7 @@ fn replayed(rt: HostRuntime) -> Result<(), Fail> {
         places: 36,
     };
     let calls = [follow(0x20, 3), STEP, press, STEP, STEP, STEP, STEP];
-    let Ok(done) = replay(rt.alloc(), with_chime(), &calls) else {
+    let Ok(done) = replay(rt.alloc(), station, &calls) else {
         return Err(Fail::new("unfinished"));
     };
     let pending = [0, 0, 1, 3, 2, 1, 0];
@@ -67,9 +74,9 @@ fn replayed(rt: HostRuntime) -> Result<(), Fail> {
 }
 
 // Hears a put.
-fn hear(
+fn hear<S: Station>(
     rt: &impl Abort,
-    house: &mut House<WithChime>,
+    house: &mut House<S>,
     frame: Frame,
     sent: usize,
 ) -> Result<(), Fail> {
@@ -83,40 +90,43 @@ fn hear(
 // strokes are not accepted. The link is no cell, but a state byte.
 #[test]
 fn remembered(rt: HostRuntime) -> Result<(), Fail> {
-    let mut house = house_over(rt.alloc(), with_chime())?;
+    remembered_in(&rt, house_over(rt.alloc(), with_chime())?)
+}
+
+fn remembered_in<S: Station + Drop>(rt: &impl Abort, mut house: House<S>) -> Result<(), Fail> {
     let mut buffer = [7; 254];
     hear(
-        &rt,
+        rt,
         &mut house,
         Frame::new(3, 0x21, 3, [0xA0, 0x20, 9, 0, 0, 0, 0, 0]),
         0,
     )?;
     hear(
-        &rt,
+        rt,
         &mut house,
         Frame::new(3, 0x21, 3, [0xA0, 0x10, 10, 0, 0, 0, 0, 0]),
         0,
     )?;
     hear(
-        &rt,
+        rt,
         &mut house,
         Frame::new(3, 0x21, 4, [0xFC, 0, 36, 0x77, 0, 0, 0, 0]),
         0,
     )?;
     hear(
-        &rt,
+        rt,
         &mut house,
         Frame::new(3, 0x21, 4, [0xFC, 0, 37, 0x78, 0, 0, 0, 0]),
         0,
     )?;
     hear(
-        &rt,
+        rt,
         &mut house,
         Frame::new(3, 0x21, 7, [0xCA, 0, 34, 1, 2, 3, 4, 0]),
         0,
     )?;
     hear(
-        &rt,
+        rt,
         &mut house,
         Frame::new(0, 0x20, 4, [0, 1, 0, 0, 0, 0, 0, 0]),
         9,

@@ -2,13 +2,21 @@
 use crate::calls::{begins_with, mark, refuses, served};
 use crate::stations::{house_over, kinds};
 use bus::Frame;
-use house::Call;
+use house::{Call, House};
+use station::Station;
+use std::process::Abort;
 use std::test::*;
 
 // Without pending frames.
 #[test]
 fn nothing_to_clear(rt: HostRuntime) -> Result<(), Fail> {
-    let mut house = house_over(rt.alloc(), kinds())?;
+    nothing_to_clear_in(&rt, house_over(rt.alloc(), kinds())?)
+}
+
+fn nothing_to_clear_in<S: Station + Drop>(
+    rt: &impl Abort,
+    mut house: House<S>,
+) -> Result<(), Fail> {
     assert_eq!(rt; served(house.clear())?, 0);
     assert_eq!(rt; served(house.clear())?, 0);
     assert_eq!(rt; house.pending(), 0);
@@ -21,7 +29,10 @@ fn nothing_to_clear(rt: HostRuntime) -> Result<(), Fail> {
 // state bytes, 1024 and 1028, and a report tell, for which the next frames are the only ones.
 #[test]
 fn three_frames(rt: HostRuntime) -> Result<(), Fail> {
-    let mut house = house_over(rt.alloc(), kinds())?;
+    three_frames_in(&rt, house_over(rt.alloc(), kinds())?)
+}
+
+fn three_frames_in<S: Station + Drop>(rt: &impl Abort, mut house: House<S>) -> Result<(), Fail> {
     let mut buffer = [mark(); 27];
     served(house.put(Frame::from([3, 0x10, 0, 2, 0x02, 0x03, 0, 0, 0, 0, 0, 0])))?;
     assert_eq!(rt; served(house.step(&mut buffer))?, (3, 3));
@@ -30,13 +41,13 @@ fn three_frames(rt: HostRuntime) -> Result<(), Fail> {
     for (place, byte) in [(1023, 0xFF), (1024, 1), (1028, 1), (1032, 0), (1036, 0)] {
         assert_eq!(rt; house.record(0x10, place), Some(byte));
     }
-    refuses(&rt, &mut house, Call::Step { places: 27 }, 9)?;
+    refuses(rt, &mut house, Call::Step { places: 27 }, 9)?;
     assert_eq!(rt; served(house.clear())?, 0);
     served(house.put(Frame::from([3, 0x10, 0, 2, 0xFA, 0x07, 0, 0, 0, 0, 0, 0])))?;
     let mut told = [mark(); 27];
     assert_eq!(rt; served(house.step(&mut told))?, (3, 3));
     begins_with(
-        &rt,
+        rt,
         &told,
         &[
             [3, 0x10, 0, 8, 0xFB, 0x01, 0, 1, 0, 0, 0, 0],
@@ -50,7 +61,10 @@ fn three_frames(rt: HostRuntime) -> Result<(), Fail> {
 // quiet then, so a push and a second are served.
 #[test]
 fn a_put_frame(rt: HostRuntime) -> Result<(), Fail> {
-    let mut house = house_over(rt.alloc(), kinds())?;
+    a_put_frame_in(&rt, house_over(rt.alloc(), kinds())?)
+}
+
+fn a_put_frame_in<S: Station + Drop>(rt: &impl Abort, mut house: House<S>) -> Result<(), Fail> {
     let mut buffer = [mark(); 27];
     served(house.put(Frame::from([3, 0x10, 0, 2, 0x02, 0x01, 0, 0, 0, 0, 0, 0])))?;
     assert_eq!(rt; served(house.clear())?, 1);

@@ -3,7 +3,9 @@
 use crate::calls::{mark, refuses, served};
 use crate::stations::{house_over, kinds};
 use bus::Frame;
-use house::Call;
+use house::{Call, House};
+use station::Station;
+use std::process::Abort;
 use std::test::*;
 
 fn push(address: u8, channel: u8, edge: u8, places: usize) -> Call {
@@ -23,7 +25,10 @@ fn ill_formed() -> Frame {
 // Nobody stands at 21; the panel at 20 has eight buttons and the relay at 10 none.
 #[test]
 fn quiet(rt: HostRuntime) -> Result<(), Fail> {
-    let mut house = house_over(rt.alloc(), kinds())?;
+    quiet_in(&rt, house_over(rt.alloc(), kinds())?)
+}
+
+fn quiet_in<S: Station + Drop>(rt: &impl Abort, mut house: House<S>) -> Result<(), Fail> {
     let table = [
         (Call::Put(ill_formed()), 5),
         (push(0x20, 1, 0, 26), 4),
@@ -50,7 +55,7 @@ fn quiet(rt: HostRuntime) -> Result<(), Fail> {
         (Call::Step { places: 160 }, 9),
     ];
     for (call, number) in table {
-        refuses(&rt, &mut house, call, number)?;
+        refuses(rt, &mut house, call, number)?;
     }
     Ok(())
 }
@@ -58,7 +63,10 @@ fn quiet(rt: HostRuntime) -> Result<(), Fail> {
 // With a frame that is pending, 8 comes after all others.
 #[test]
 fn busy(rt: HostRuntime) -> Result<(), Fail> {
-    let mut house = house_over(rt.alloc(), kinds())?;
+    busy_in(&rt, house_over(rt.alloc(), kinds())?)
+}
+
+fn busy_in<S: Station + Drop>(rt: &impl Abort, mut house: House<S>) -> Result<(), Fail> {
     served(house.put(mark()))?;
     let table = [
         (Call::Put(ill_formed()), 5),
@@ -76,7 +84,7 @@ fn busy(rt: HostRuntime) -> Result<(), Fail> {
         (Call::Step { places: 0 }, 4),
     ];
     for (call, number) in table {
-        refuses(&rt, &mut house, call, number)?;
+        refuses(rt, &mut house, call, number)?;
     }
     assert_eq!(rt; house.pending(), 1);
     Ok(())

@@ -7,13 +7,11 @@ use module::Seat;
 use panel::Panel;
 use relay::Relay;
 use runs::{Entry, Replayed, Reply, Unfinished, replay};
-use station::Rail;
+use station::{Rail, Station};
 use std::process::Abort;
 use std::test::*;
 
-type Modules = Rail<Seat<Panel>, Seat<Relay>>;
-
-fn modules() -> Modules {
+fn modules() -> Rail<Seat<Panel>, Seat<Relay>> {
     Rail {
         first: panel(0x20),
         second: relay(0x10),
@@ -104,16 +102,17 @@ fn all_noted(rt: &impl Abort, entries: &[Entry], lines: &[Line]) -> Result<(), F
     Ok(())
 }
 
-// Replays the calls of the lines.
-fn replayed(
+// Replays the calls of the lines, over a station that is any one here: so nothing has to be proved of each kind.
+fn replayed<S: Station + Drop>(
     rt: &(impl Abort + AllocGlobal),
+    station: S,
     lines: &[Line],
-) -> Result<Result<Replayed<Modules>, Unfinished<Modules>>, Fail> {
+) -> Result<Result<Replayed<S>, Unfinished<S>>, Fail> {
     let mut calls = Vec::new(rt.alloc());
     for line in lines {
         calls.push(line.call)?;
     }
-    Ok(replay(rt.alloc(), modules(), calls.as_slice()))
+    Ok(replay(rt.alloc(), station, calls.as_slice()))
 }
 
 const PUSH: Call = Call::Push {
@@ -162,6 +161,13 @@ fn record(address: u8, place: usize) -> Call {
 // relay's second is pending.
 #[test]
 fn all_calls(rt: HostRuntime) -> Result<(), Fail> {
+    all_calls_over(&rt, modules())
+}
+
+fn all_calls_over<S: Station + Drop>(
+    rt: &(impl Abort + AllocGlobal),
+    station: S,
+) -> Result<(), Fail> {
     let lines = [
         answers(record(0x20, 255), Outcome::Byte(Some(0xFF))),
         answers(STEP, Outcome::Refused(9)),
@@ -185,10 +191,10 @@ fn all_calls(rt: HostRuntime) -> Result<(), Fail> {
         answers(Call::Step { places: 40 }, Outcome::Counts(0, 2)),
         answers(STEP, Outcome::Counts(0, 1)),
     ];
-    let Ok(replayed) = replayed(&rt, &lines)? else {
+    let Ok(replayed) = replayed(rt, station, &lines)? else {
         return Err(Fail::new("unfinished"));
     };
-    all_noted(&rt, replayed.entries.as_slice(), &lines)?;
+    all_noted(rt, replayed.entries.as_slice(), &lines)?;
     let mut house = replayed.house;
     assert_eq!(rt; house.pending(), 1);
     assert_eq!(rt; house.record(0x20, 259), Some(0x80));
@@ -202,6 +208,13 @@ fn all_calls(rt: HostRuntime) -> Result<(), Fail> {
 // The other refusals of a push and a put; the button stays up.
 #[test]
 fn only_refusals(rt: HostRuntime) -> Result<(), Fail> {
+    only_refusals_over(&rt, modules())
+}
+
+fn only_refusals_over<S: Station + Drop>(
+    rt: &(impl Abort + AllocGlobal),
+    station: S,
+) -> Result<(), Fail> {
     let push = |address, channel, edge, places| Call::Push {
         address,
         channel,
@@ -217,10 +230,10 @@ fn only_refusals(rt: HostRuntime) -> Result<(), Fail> {
         answers(push(0x20, 8, 3, 18), Outcome::Refused(7)),
         answers(SHORT_STEP, Outcome::Refused(4)),
     ];
-    let Ok(replayed) = replayed(&rt, &lines)? else {
+    let Ok(replayed) = replayed(rt, station, &lines)? else {
         return Err(Fail::new("unfinished"));
     };
-    all_noted(&rt, replayed.entries.as_slice(), &lines)?;
+    all_noted(rt, replayed.entries.as_slice(), &lines)?;
     assert_eq!(rt; replayed.house.pending(), 0);
     assert_eq!(rt; replayed.house.record(0x20, 259), Some(0));
     Ok(())
@@ -228,7 +241,14 @@ fn only_refusals(rt: HostRuntime) -> Result<(), Fail> {
 
 #[test]
 fn no_calls(rt: HostRuntime) -> Result<(), Fail> {
-    let Ok(replayed) = replayed(&rt, &[])? else {
+    no_calls_over(&rt, modules())
+}
+
+fn no_calls_over<S: Station + Drop>(
+    rt: &(impl Abort + AllocGlobal),
+    station: S,
+) -> Result<(), Fail> {
+    let Ok(replayed) = replayed(rt, station, &[])? else {
         return Err(Fail::new("unfinished"));
     };
     assert_eq!(rt; replayed.entries.len(), 0);
@@ -243,6 +263,13 @@ fn no_calls(rt: HostRuntime) -> Result<(), Fail> {
 // house goes on: what the panel told is pending.
 #[test]
 fn too_large_a_buffer(rt: HostRuntime) -> Result<(), Fail> {
+    too_large_a_buffer_over(&rt, modules())
+}
+
+fn too_large_a_buffer_over<S: Station + Drop>(
+    rt: &(impl Abort + AllocGlobal),
+    station: S,
+) -> Result<(), Fail> {
     let huge = Call::Step { places: usize::MAX };
     let lines = [
         answers(Call::Clear, Outcome::Cleared(0)),
@@ -250,16 +277,16 @@ fn too_large_a_buffer(rt: HostRuntime) -> Result<(), Fail> {
         answers(huge, Outcome::Counts(0, 0)),
         answers(STEP, Outcome::Counts(0, 0)),
     ];
-    let Err(Unfinished::Stopped(replayed)) = replayed(&rt, &lines)? else {
+    let Err(Unfinished::Stopped(replayed)) = replayed(rt, station, &lines)? else {
         return Err(Fail::new("not stopped"));
     };
-    all_noted(&rt, replayed.entries.as_slice(), &lines[..2])?;
+    all_noted(rt, replayed.entries.as_slice(), &lines[..2])?;
     let mut house = replayed.house;
     let mut buffer = [mark(); 18];
     assert_eq!(rt; house.record(0x20, 259), Some(0x80));
     assert_eq!(rt; served(house.step(&mut buffer))?, (0, 0));
     assert_eq!(rt; served(house.push(0x20, 8, 1, &mut buffer))?, (1, 1));
-    begins_with(&rt, &buffer, &[[0, 0x20, 0, 4, 0, 0, 0x80, 0, 0, 0, 0, 0]])
+    begins_with(rt, &buffer, &[[0, 0x20, 0, 4, 0, 0, 0x80, 0, 0, 0, 0, 0]])
 }
 
 // A station that was put together wrongly: each call but a record has an entry with the builder's fault.
@@ -269,6 +296,13 @@ fn a_faulty_station(rt: HostRuntime) -> Result<(), Fail> {
         first: panel(0x20),
         second: relay(0x20),
     };
+    a_faulty_station_over(&rt, station)
+}
+
+fn a_faulty_station_over<S: Station + Drop>(
+    rt: &(impl Abort + AllocGlobal),
+    station: S,
+) -> Result<(), Fail> {
     let lines = [
         answers(start(), Outcome::Refused(2)),
         answers(PUSH, Outcome::Refused(2)),
@@ -277,9 +311,8 @@ fn a_faulty_station(rt: HostRuntime) -> Result<(), Fail> {
         answers(Call::Clear, Outcome::Refused(2)),
         answers(record(0x20, 259), Outcome::Byte(Some(0))),
     ];
-    let calls = lines.map(|line| line.call);
-    let Ok(replayed) = replay(rt.alloc(), station, &calls) else {
+    let Ok(replayed) = replayed(rt, station, &lines)? else {
         return Err(Fail::new("unfinished"));
     };
-    all_noted(&rt, replayed.entries.as_slice(), &lines)
+    all_noted(rt, replayed.entries.as_slice(), &lines)
 }
