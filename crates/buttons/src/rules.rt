@@ -1,5 +1,5 @@
 // What a button interface with eight buttons does.
-ghost use Rattle.std.specs.Prelude.{◌≡◌, replicate};
+ghost use Rattle.std.specs.Prelude.{◌≡◌, replicate, refl};
 ghost use Rattle.buttons.specs.Buttons.{variant, design, content};
 ghost use Rattle.interface.proofs.Orderly.{interface_orderly};
 ghost use Rattle.std.proofs.Common.{rules};
@@ -65,6 +65,12 @@ impl Module for ButtonInterface {
 }
 
 impl ModuleKind for ButtonInterface {
+    ghost MEMORY = { 1024 };
+
+    ghost BUTTONS = { 8 };
+
+    ghost sizes = { λ _. (refl, refl) };
+
     const MEMORY: usize = CELLS;
 
     const BUTTONS: u8 = 8;

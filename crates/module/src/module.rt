@@ -1,5 +1,5 @@
 // The interface of a single module.
-ghost use Rattle.std.specs.Prelude.{◌≡◌, length};
+ghost use Rattle.std.specs.Prelude.{◌≡◌, ℕ, length};
 ghost use Rattle.bus.specs.Outboxes.{Room, Sends};
 ghost use Rattle.station.specs.Kinds.{Record, bytes};
 ghost use Rattle.station.specs.Seats.{nth};
@@ -78,13 +78,20 @@ pub trait Module {
 // A kind of module: what all modules of the kind share, and the setup that a single one is made with.
 pub trait ModuleKind: Module {
     // How many cells the memory has.
+    ghost MEMORY: { ℕ };
+
     const MEMORY: usize;
 
     // How many buttons there are.
+    ghost BUTTONS: { ℕ };
+
     const BUTTONS: u8;
 
     type Setup;
 
     // A new module; each kind says what it holds.
     fn new(setup: Self::Setup) -> Self;
+
+    // These are the sizes of the design.
+    ghost sizes: { (m : Self) → ((Self.design m).memory ≡ MEMORY) × ((Self.design m).buttons ≡ BUTTONS) };
 }

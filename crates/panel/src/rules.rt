@@ -1,5 +1,5 @@
 // What a panel does.
-ghost use Rattle.std.specs.Prelude.{◌≡◌, replicate, [], ◌∷◌};
+ghost use Rattle.std.specs.Prelude.{◌≡◌, replicate, [], ◌∷◌, refl};
 ghost use Rattle.bus.specs.Outboxes.{Room, Sends};
 ghost use Rattle.panel.specs.Panels.{design, content, status_sent, type_sent};
 ghost use Rattle.std.proofs.Common.{rules};
@@ -83,6 +83,12 @@ impl Module for Panel {
 }
 
 impl ModuleKind for Panel {
+    ghost MEMORY = { 256 };
+
+    ghost BUTTONS = { 8 };
+
+    ghost sizes = { λ _. (refl, refl) };
+
     const MEMORY: usize = CELLS;
 
     const BUTTONS: u8 = 8;

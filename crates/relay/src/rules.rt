@@ -1,5 +1,5 @@
 // What a relay does.
-ghost use Rattle.std.specs.Prelude.{◌≡◌, ◌<◌, replicate};
+ghost use Rattle.std.specs.Prelude.{◌≡◌, ◌<◌, replicate, refl};
 ghost use Rattle.bus.specs.Outboxes.{Room, Sends};
 ghost use Rattle.module.specs.Cells.{memory_cells};
 ghost use Rattle.relay.specs.Relays.{state_of, named_channels, start_action, commanded, carried, carried_out, answer, pairs, by_pair, by_pairs, pair_bits, all_bits, all_ticked, design, content};
@@ -260,6 +260,12 @@ impl Module for Relay {
 }
 
 impl ModuleKind for Relay {
+    ghost MEMORY = { 1024 };
+
+    ghost BUTTONS = { 0 };
+
+    ghost sizes = { λ _. (refl, refl) };
+
     const MEMORY: usize = CELLS;
 
     const BUTTONS: u8 = 0;
