@@ -1,5 +1,5 @@
--- The number of each refusal. Assumes nothing.
-use Rattle.std.specs.Prelude.{ℕ}
+-- The number of each refusal, and its words. Assumes nothing.
+use Rattle.std.specs.Prelude.{ℕ, List, codes}
 use Rattle.bus.specs.declared.refusal.Refusal.{Refusal}
 use Rattle.bus.specs.declared.refusal.Refusal.TheVariants.{SeatAddress, AddressTwice, TooManySeats, ShortBuffer, IllFormedFrame, NoSuchSeat, NoSuchButton, NotQuiet, NothingPending, NoRoom, UnknownItem, CutShort}
 
@@ -28,3 +28,18 @@ number NoRoom = 10
 number UnknownItem = 11
 -- a log item's body is cut short
 number CutShort = 12
+
+-- the refusal in words
+abbrev pub words : Refusal → List ℕ
+words SeatAddress = codes "a seat has address 00 or FF"
+words AddressTwice = codes "two seats have one address"
+words TooManySeats = codes "there are more than 16 seats"
+words ShortBuffer = codes "the buffer is too short"
+words IllFormedFrame = codes "the frame is not well formed"
+words NoSuchSeat = codes "no seat has that address"
+words NoSuchButton = codes "there is no such button or edge"
+words NotQuiet = codes "frames are still pending: step first"
+words NothingPending = codes "no frame is pending"
+words NoRoom = codes "what could be sent might not fit"
+words UnknownItem = codes "the log item is of no known kind"
+words CutShort = codes "the log item is cut short"

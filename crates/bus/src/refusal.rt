@@ -1,6 +1,6 @@
 // The numbered refusals.
-ghost use Rattle.std.specs.Prelude.{◌≡◌};
-ghost use Rattle.bus.specs.Refusals.{number};
+ghost use Rattle.std.specs.Prelude.{◌≡◌, Some};
+ghost use Rattle.bus.specs.Refusals.{number, words};
 
 use std::fmt;
 
@@ -32,6 +32,8 @@ impl Refusal {
 
 // The refusal in words.
 impl fmt::Display for Refusal {
+    ghost output = { λ r. Some (words r) };
+
     fn fmt<W: fmt::Write>(&self, f: &mut fmt::Formatter<W>) -> fmt::Result {
         let text = match self {
             Refusal::SeatAddress => "a seat has address 00 or FF",

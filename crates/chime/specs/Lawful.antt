@@ -5,7 +5,7 @@ use Rattle.std.proofs.lemmas.List.{length-replicate}
 use Rattle.std.specs.List.{AllByRecursion}
 use Rattle.std.proofs.lemmas.Bool.{or_parts, and_left, cond_both, cond-false, true≢false, leb-true}
 use Rattle.bus.specs.declared.frame.Frame.{Frame}
-use Rattle.bus.specs.Frames.{byte, is_command, message}
+use Rattle.bus.specs.Frames.{byte, is_command}
 use Rattle.station.specs.declared.event.Event.{Event}
 use Rattle.station.specs.declared.event.Event.TheVariants.{Heard, Second, Pushed}
 use Rattle.station.specs.Kinds.{Record, Outcome, is_status, linked, reaches}
@@ -106,11 +106,3 @@ module _ (tone own : ℕ) (r : Record) (k : Kept r) where
 pub chime_lawful : (tone own : ℕ) (r : Record) → Kept r → (es : List Event) → Rules (chime_kind tone) own (later (chime_kind tone) own r es)
 chime_lawful tone own r k [] = rules tone own r k
 chime_lawful tone own r k (e ∷ es) = chime_lawful tone own (acts tone own r e).after (event_keeps tone own r k e).kept es
-
--- a record that no events lead to, with ten strokes by the address 2
-abbrev ten_strokes : Record
-ten_strokes = record { cells = replicate 37 255; state = 2 ∷ 10 ∷ [] }
-
--- at such a record the rules fail: a button status from 2 is answered with ten frames
-pub fails_elsewhere : (tone : ℕ) → Rules (chime_kind tone) 1 ten_strokes → ⊥
-fails_elsewhere tone h = omega (arith, h.nine (Heard (message 0 2 (0x00 ∷ 1 ∷ 0 ∷ 0 ∷ []))))

@@ -1,5 +1,5 @@
 -- The steps of a row of acts. Assumes nothing.
-use Rattle.std.proofs.Common.{◌≡◌, ℕ, zero, suc, ◌+◌, ◌-◌, ◌<◌, Bool, true, false, cond, List, ◌∷◌, length, get_or, drop, fold, add-one, drop-cons, sym, refl, ap, ◌∙◌, arith}
+use Rattle.std.proofs.Common.{◌≡◌, ℕ, zero, suc, ◌+◌, ◌-◌, ◌<◌, Bool, true, false, cond, List, ◌∷◌, fold, sym, refl, ap, ◌∙◌, arith}
 use Rattle.module.specs.Searches.{passing}
 use Rattle.interface.specs.Links.{in_turn}
 
@@ -22,10 +22,6 @@ module _ {A : Type 0} (act : ℕ → A → A) where
   unfolding in_turn
   in_turn_idle h i zero x = refl
   in_turn_idle h i (suc n) x = ap (in_turn act (suc i) n) (h i x) ∙ in_turn_idle h (suc i) n x
-
--- a row of acts over a list, one step
-pub fold_here : {A : Type 0} (step : A → ℕ → A) (x : A) (ks : List ℕ) (i : ℕ) → i < length ks → fold step x (drop i ks) ≡ fold step (step x (get_or ks i 0)) (drop (i + 1) ks)
-fold_here step x ks i h = rw (add-one, drop-cons ks i 0)
 
 -- numbers whose act changes nothing can be left out
 module _ {A : Type 0} (act : ℕ → A → A) (used : ℕ → Bool) (idle : (k : ℕ) → used k ≡ false → (x : A) → act k x ≡ x) where

@@ -11,7 +11,12 @@ pub enum Edge {
     LongPress = 2,
 }
 
-// The edge of a number, as tools and logs have it.
+// A cast gives the number of an edge, as tools and logs have it.
+const _: () = prove!(
+    Edge::Press as u8 == 0 && Edge::Release as u8 == 1 && Edge::LongPress as u8 == 2
+);
+
+// The edge of a number.
 impl TryFrom<u8> for Edge {
     type Error = Refusal;
 
