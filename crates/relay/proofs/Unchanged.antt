@@ -21,44 +21,39 @@ nowhere w e =
     let c = or_parts w.three w.four b.1 in
     record { one = a.0; two = b.0; three = c.0; four = c.1 }
 
-no_rise : (bit : ℕ) (was is : Bool) → differ was is ≡ false → rise bit was is ≡ 0
-no_rise bit true true e = refl
-no_rise bit true false e = refl
-no_rise bit false true e = absurd (true≢false e)
-no_rise bit false false e = refl
-
-no_fall : (bit : ℕ) (was is : Bool) → differ was is ≡ false → rise bit is was ≡ 0
-no_fall bit true true e = refl
-no_fall bit true false e = absurd (true≢false e)
-no_fall bit false true e = refl
-no_fall bit false false e = refl
-
-not_told : (own bit : ℕ) (w : Bool) (x : Contact) → w ≡ false → told own bit w x ≡ []
-not_told own bit w x e = ap (λ b. told own bit b x) e
-
-pub unreported : (own : ℕ) (was : PerChannel Bool) (x : PerChannel Contact) → some (changes was (made x)) ≡ false → report own was x ≡ []
-unreported own was x e =
-    let w = changes was (made x) in
-    let is = made x in
-    let n = nowhere w e in
-    let silent : statuses own w x ≡ [] =
-    (λ i. not_told own 1 w.one x.one n.one i ++ (not_told own 2 w.two x.two n.two i ++ (not_told own 4 w.three x.three n.three i ++ not_told own 8 w.four x.four n.four i))) in
-    let up : risen was is ≡ 0 =
-    (λ i. no_rise 1 was.one is.one n.one i + (no_rise 2 was.two is.two n.two i + (no_rise 4 was.three is.three n.three i + no_rise 8 was.four is.four n.four i))) in
-    let down : risen is was ≡ 0 =
-    (λ i. no_fall 1 was.one is.one n.one i + (no_fall 2 was.two is.two n.two i + (no_fall 4 was.three is.three n.three i + no_fall 8 was.four is.four n.four i))) in
-    let still : switched own was is ≡ [] = cond-true _ _ _ (λ i. eqb (up i) 0 && eqb (down i) 0) in
-    (λ i. silent i ++ still i)
+-- where it does not differ it is the same
+unchanged : (was is : Bool) → differ was is ≡ false → was ≡ is
+unchanged true true e = refl
+unchanged true false e = absurd (true≢false e)
+unchanged false true e = absurd (true≢false e)
+unchanged false false e = refl
 
 same : (b : Bool) → differ b b ≡ false
 same true = refl
 same false = refl
 
+no_rise : (bit : ℕ) (b : Bool) → rise bit b b ≡ 0
+no_rise bit true = refl
+no_rise bit false = refl
+
 -- contacts as they were
 pub same_unreported : (own : ℕ) (x : PerChannel Contact) → report own (made x) x ≡ []
 same_unreported own x =
     let is = made x in
-    unreported own is x (λ i. same is.one i || (same is.two i || (same is.three i || same is.four i)))
+    let silent : statuses own (changes is is) x ≡ [] =
+    λ i. told own 1 (same is.one i) x.one ++ (told own 2 (same is.two i) x.two ++ (told own 4 (same is.three i) x.three ++ told own 8 (same is.four i) x.four)) in
+    let none : risen is is ≡ 0 =
+    λ i. no_rise 1 is.one i + (no_rise 2 is.two i + (no_rise 4 is.three i + no_rise 8 is.four i)) in
+    ap (λ t. t ++ switched own is is) silent ∙ cond-true _ _ _ (λ i. eqb (none i) 0 && eqb (none i) 0)
+
+-- contacts none of which changed
+pub unreported : (own : ℕ) (was : PerChannel Bool) (x : PerChannel Contact) → some (changes was (made x)) ≡ false → report own was x ≡ []
+unreported own was x e =
+    let is = made x in
+    let n = nowhere (changes was is) e in
+    let as_was : was ≡ is =
+    λ i. record { one = unchanged was.one is.one n.one i; two = unchanged was.two is.two n.two i; three = unchanged was.three is.three n.three i; four = unchanged was.four is.four n.four i } in
+    ap (λ w. report own w x) as_was ∙ same_unreported own x
 
 one_not_ticked : (x : Contact) → is_running x ≡ false → ticked x ≡ x
 one_not_ticked opened e = refl

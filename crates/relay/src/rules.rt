@@ -1,5 +1,5 @@
 // What a relay does.
-ghost use Rattle.std.specs.Prelude.{◌≡◌, ◌<◌, replicate, refl};
+ghost use Rattle.std.specs.Prelude.{◌≡◌, replicate, refl};
 ghost use Rattle.bus.specs.Outboxes.{Room, Sends};
 ghost use Rattle.module.specs.Cells.{memory_cells};
 ghost use Rattle.relay.specs.Relays.{state_of, named_channels, start_action, commanded, carried, carried_out, answer, pairs, by_pair, by_pairs, pair_bits, all_bits, all_ticked, design, content};
