@@ -38,11 +38,11 @@ pub(crate) fn memory<W: fmt::Write>(
     let cell = first_cell(frame);
     let (before, bytes, place, after) = match frame.bytes[0] {
         0xC9 => ("read four cells from ", 0, "", " on"),
-        0xCA => ("write ", 4, " from cell ", " on"),
-        0xCC => ("", 4, " stand from cell ", " on"),
-        0xFC => ("write ", 1, " to cell ", ""),
+        0xCA => ("write ", 4, "from cell ", " on"),
+        0xCC => ("", 4, "stand from cell ", " on"),
+        0xFC => ("write ", 1, "to cell ", ""),
         0xFD => ("read cell ", 0, "", ""),
-        _ => ("", 1, " stands in cell ", ""),
+        _ => ("", 1, "stands in cell ", ""),
     };
     f.write_str(before)?;
     carried(frame, bytes, f)?;
@@ -53,12 +53,10 @@ pub(crate) fn memory<W: fmt::Write>(
     write!(f, "{place}{cell:04X}{after}{end}")
 }
 
-// So many of the bytes behind the cell's number.
+// So many of the bytes behind the cell's number, each with a space behind it.
 fn carried<W: fmt::Write>(frame: &Frame, number: usize, f: &mut fmt::Formatter<W>) -> fmt::Result {
-    let mut joint = "";
     for byte in frame.bytes.iter().skip(3).take(number) {
-        write!(f, "{joint}{byte:02X}")?;
-        joint = " ";
+        write!(f, "{byte:02X} ")?;
     }
     Ok(())
 }
