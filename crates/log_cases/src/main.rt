@@ -1,5 +1,6 @@
 // Tries the cases of a table, which comes on standard input, and prints those that do not come out as the table says.
-// A case is a log for the bench, the answers to it, and bytes that the records of the modules must have then.
+// A case is a log for the bench, the answers to it, and bytes that the records of the modules must have then. A line that
+// begins with `! ` is a case with a mistake, which has to be found; so it shows that cases are compared.
 #![tactic(auto)]
 
 mod case;
@@ -13,11 +14,13 @@ use case::Case;
 use std::io;
 use trial::differences;
 
-// How many cases were tried, and how many of them differ.
+// How many cases were tried, how many of them differ, and how many mistakes were found. One that was not found counts as
+// a case that differs.
 #[derive(Clone, Copy)]
 struct Tally {
     cases: usize,
     differ: usize,
+    mistakes: usize,
 }
 
 fn main(rt: HostRuntime) -> anyhow::Result<()> {
@@ -29,10 +32,15 @@ fn run(rt: &HostRuntime, table: &str) -> anyhow::Result<()> {
     let mut tally = Tally {
         cases: 0,
         differ: 0,
+        mistakes: 0,
     };
     for (index, line) in table.lines().enumerate() {
         let number = index.saturating_add(1);
-        if !is_comment(line) {
+        if let Some(mistaken) = line.strip_prefix("! ") {
+            let found = try_mistake(rt, number, mistaken).context(format_args!("line {number}"))?;
+            tally.mistakes = tally.mistakes.saturating_add(usize::from(found));
+            tally.differ = tally.differ.saturating_add(usize::from(!found));
+        } else if !is_comment(line) {
             let differs = try_line(rt, number, line).context(format_args!("line {number}"))?;
             tally.cases = tally.cases.saturating_add(1);
             tally.differ = tally.differ.saturating_add(usize::from(differs));
@@ -61,12 +69,25 @@ fn try_line(rt: &HostRuntime, number: usize, line: &str) -> anyhow::Result<bool>
     Ok(true)
 }
 
+// Tries a case with a mistake, and answers whether it was found.
+fn try_mistake(rt: &HostRuntime, number: usize, line: &str) -> anyhow::Result<bool> {
+    let found = try_line(rt, number, line)?;
+    if !found {
+        println!(rt; "line {number}: the mistake was not found")?;
+    }
+    Ok(found)
+}
+
 fn sum_up(rt: &HostRuntime, tally: Tally) -> anyhow::Result<()> {
-    let Tally { cases, differ } = tally;
+    let Tally {
+        cases,
+        differ,
+        mistakes,
+    } = tally;
     if differ != 0 {
         println!(rt; "{cases} cases, {differ} differ")?;
         bail!("the bench does not do what the table says");
     }
-    println!(rt; "{cases} cases, all as they should be")?;
+    println!(rt; "{cases} cases, all as they should be, and {mistakes} mistakes, all found")?;
     Ok(())
 }

@@ -5,6 +5,7 @@ use crate::group::{
 };
 use crate::setups::{INTERFACE_SETUP, PANEL_SETUP, RELAY_SETUP};
 use buttons::ButtonInterface;
+use house::Call;
 use kinds::{new_button_interface, new_panel, new_relay};
 use module::Seat;
 use panel::Panel;
@@ -47,7 +48,7 @@ const PRESS: &str = "Outside the group: button 2 of interface 30 is pressed.";
 const RELEASE: &str = "Outside the group: button 2 of interface 30 is released.";
 
 // The lock is over with the second second.
-pub fn acts() -> [Act; 15] {
+pub fn acts() -> [Act; 18] {
     [
         link(),
         lock(),
@@ -60,6 +61,9 @@ pub fn acts() -> [Act; 15] {
         press_2(),
         release_2(),
         nobody(),
+        nothing_waits(),
+        byte_of_link(),
+        no_byte(),
         second(0),
         second(2),
         push_interface(PRESS_FREE, 1, Edge::Press, 1),
@@ -88,6 +92,36 @@ fn nobody() -> Act {
     Act {
         text: "Outside the group: a button is pressed at 31, where no module is.",
         call: push(0x31, 1, Edge::Press),
+        steps: 0,
+    }
+}
+
+fn nothing_waits() -> Act {
+    Act {
+        text: "Outside the group: nothing waits, so a clear throws nothing away, and a step is refused.",
+        call: Call::Clear,
+        steps: 1,
+    }
+}
+
+fn byte_of_link() -> Act {
+    Act {
+        text: "A byte of the group is asked for: cell 003C of relay 10, in which panel 20 is linked.",
+        call: Call::Record {
+            address: RELAY,
+            place: 0x003C,
+        },
+        steps: 0,
+    }
+}
+
+fn no_byte() -> Act {
+    Act {
+        text: "Outside the group: a byte is asked for at 31, where no module is.",
+        call: Call::Record {
+            address: 0x31,
+            place: 0,
+        },
         steps: 0,
     }
 }

@@ -63,10 +63,10 @@ fn run(rt: &HostRuntime) -> anyhow::Result<()> {
     trace.settle(rt)?;
     press(rt, &mut trace)?;
     press(rt, &mut trace)?;
-    Ok(())
+    run_out(rt, &mut trace)
 }
 
-// Presses button 1, lets all frames pass, releases it, and asks what is closed and what shines.
+// Presses button 1, lets all frames pass, releases it, and asks.
 fn press(rt: &HostRuntime, trace: &mut Trace<Modules>) -> anyhow::Result<()> {
     println!(rt; "Button 1 is pressed, and released too soon for the bench.")?;
     trace.push(rt, PANEL, 1, Edge::Press as u8)?;
@@ -75,11 +75,42 @@ fn press(rt: &HostRuntime, trace: &mut Trace<Modules>) -> anyhow::Result<()> {
     println!(rt; "Button 1 is released.")?;
     trace.push(rt, PANEL, 1, Edge::Release as u8)?;
     trace.settle(rt)?;
+    ask(rt, trace)
+}
+
+// Asks what is closed and what shines.
+fn ask(rt: &HostRuntime, trace: &mut Trace<Modules>) -> anyhow::Result<()> {
     println!(rt; "The modules are asked for their status.")?;
-    trace.put(rt, Frame::new(3, RELAY, 2, [0xFA, 0x0F, 0, 0, 0, 0, 0, 0]))?;
-    trace.settle(rt)?;
-    trace.put(rt, Frame::new(3, PANEL, 2, [0xFA, 0xFF, 0, 0, 0, 0, 0, 0]))?;
-    trace.settle(rt)?;
+    command(rt, trace, RELAY, [0xFA, 0x0F, 0, 0, 0, 0, 0, 0])?;
+    command(rt, trace, PANEL, [0xFA, 0xFF, 0, 0, 0, 0, 0, 0])?;
+    sum_up(rt, &Told::by(trace.frames()))
+}
+
+// A command of two bytes; all frames pass.
+fn command(
+    rt: &HostRuntime,
+    trace: &mut Trace<Modules>,
+    address: u8,
+    bytes: [u8; 8],
+) -> anyhow::Result<()> {
+    trace.put(rt, Frame::new(3, address, 2, bytes))?;
+    trace.settle(rt)
+}
+
+// Has channel 2 run for 2 seconds and two lamps blink. The first second comes too soon.
+fn run_out(rt: &HostRuntime, trace: &mut Trace<Modules>) -> anyhow::Result<()> {
+    println!(rt;
+        "Channel 2 is to be closed for 2 seconds. A second that comes too soon is refused; one passes."
+    )?;
+    let run = [0x03, 0x02, 0, 0, 2, 0, 0, 0];
+    trace.put(rt, Frame::new(3, RELAY, 5, run))?;
+    trace.pass(rt, 2)?;
+    println!(rt; "Lamps 2 and 3 are to blink.")?;
+    command(rt, trace, PANEL, [0xF7, 0x02, 0, 0, 0, 0, 0, 0])?;
+    command(rt, trace, PANEL, [0xF8, 0x04, 0, 0, 0, 0, 0, 0])?;
+    ask(rt, trace)?;
+    println!(rt; "Two more seconds pass; with the first of them the time is over.")?;
+    trace.pass(rt, 2)?;
     sum_up(rt, &Told::by(trace.frames()))
 }
 

@@ -1,6 +1,6 @@
 // How calls are shown: a few lines for each call, with every frame in hexadecimal and in words.
-ghost use Rattle.std.specs.Prelude.{◌≡◌, [], ◌++◌, OnOk};
-ghost use Rattle.trace.specs.Noted.{frame_put, arrived};
+ghost use Rattle.std.specs.Prelude.{◌≡◌, [], ◌++◌, length, OnOk};
+ghost use Rattle.trace.specs.Noted.{frame_put, arrived, passed_after, passed_by};
 
 use bus::{Frame, Refusal};
 use house::Call;
@@ -20,6 +20,7 @@ pub struct Shown {
 impl Shown {
     // Of a new house.
     pub fn new(heap: Global, modules: Modules) -> Self
+        ensures modules { result.modules ≡ modules }
         ensures frames { result.frames.items ≡ [] }
         ensures passed { result.passed ≡ 0 }
     {
@@ -45,7 +46,8 @@ impl Shown {
         answer: Result<Reply, Refusal>,
         sent: &[Frame],
     ) -> anyhow::Result<()>
-        ensures { OnOk result (self.new.frames.items ≡ self.old.frames.items ++ arrived call answer sent.now) }
+        ensures frames { OnOk result (self.new.frames.items ≡ self.old.frames.items ++ arrived call answer sent.now) }
+        ensures passed { OnOk result (self.new.passed ≡ passed_by call answer (length self.old.frames.items) self.old.passed) }
     {
         self.show_call(rt, call)?;
         self.show_answer(rt, call, answer, sent)
@@ -87,7 +89,8 @@ impl Shown {
         answer: Result<Reply, Refusal>,
         sent: &[Frame],
     ) -> anyhow::Result<()>
-        ensures { OnOk result (self.new.frames.items ≡ self.old.frames.items ++ arrived call answer sent.now) }
+        ensures frames { OnOk result (self.new.frames.items ≡ self.old.frames.items ++ arrived call answer sent.now) }
+        ensures passed { OnOk result (self.new.passed ≡ passed_by call answer (length self.old.frames.items) self.old.passed) }
     {
         match answer {
             Ok(reply) => {
@@ -101,7 +104,8 @@ impl Shown {
 
     // Each frame that was sent.
     fn show_sent(&mut self, rt: &HostRuntime, sent: &[Frame]) -> anyhow::Result<()>
-        ensures { OnOk result (self.new.frames.items ≡ self.old.frames.items ++ sent.now) }
+        ensures frames { OnOk result (self.new.frames.items ≡ self.old.frames.items ++ sent.now) }
+        ensures passed { self.new.passed ≡ self.old.passed }
     {
         for frame in sent {
             self.line(rt, "sent", *frame)?;
@@ -112,13 +116,14 @@ impl Shown {
 
     // Which frames came onto the bus or passed by a call that was served.
     fn note(&mut self, call: Call) -> anyhow::Result<()>
-        ensures { OnOk result (self.new.frames.items ≡ self.old.frames.items ++ frame_put call) }
+        ensures frames { OnOk result (self.new.frames.items ≡ self.old.frames.items ++ frame_put call) }
+        ensures passed { OnOk result (self.new.passed ≡ passed_after call (length self.old.frames.items) self.old.passed) }
     {
         match call {
             Call::Put(frame) => self.frames.push(frame)?,
-            Call::Step { .. } => self.passed = self.passed.saturating_add(1),
+            Call::Step { .. } if self.passed < self.frames.len() => self.passed += 1,
             Call::Clear => self.passed = self.frames.len(),
-            Call::Push { .. } | Call::Second { .. } | Call::Record { .. } => {}
+            Call::Push { .. } | Call::Second { .. } | Call::Step { .. } | Call::Record { .. } => {}
         }
         Ok(())
     }

@@ -30,6 +30,7 @@ const STEP: Call = Call::Step { places: PLACES };
 impl<S: Station + Drop> Trace<S> {
     pub fn new(heap: Global, house: House<S>, modules: Modules) -> Self
         ensures house { result.house ≡ house }
+        ensures modules { result.shown.modules ≡ modules }
         ensures frames { result.shown.frames.items ≡ [] }
         ensures passed { result.shown.passed ≡ 0 }
     {

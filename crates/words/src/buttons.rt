@@ -33,15 +33,16 @@ pub(crate) fn status<W: fmt::Write>(frame: &Frame, f: &mut fmt::Formatter<W>) ->
         (released, "released"),
         (long, "pressed for long"),
     ];
-    let mut told = edges.iter().filter(|(bits, _)| *bits != 0);
-    let Some((bits, edge)) = told.next() else {
+    if pressed | released | long == 0 {
         return f.write_str("no button pressed or released");
-    };
-    let buttons = Several::buttons(*bits);
-    write!(f, "{buttons} {edge}")?;
-    for (bits, edge) in told {
-        let buttons = Several::buttons(*bits);
-        write!(f, ", {buttons} {edge}")?;
+    }
+    let mut joint = "";
+    for (bits, edge) in edges {
+        if bits != 0 {
+            let buttons = Several::buttons(bits);
+            write!(f, "{joint}{buttons} {edge}")?;
+            joint = ", ";
+        }
     }
     Ok(())
 }

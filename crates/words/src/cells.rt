@@ -91,10 +91,17 @@ impl<'a> Cells<'a> {
         if at > 0 && Slot::of(self.kind, cell - 1) == slot {
             return None;
         }
-        let rest = self.bytes.get(at..).filter(|rest| !rest.is_empty())?;
-        let length = (cell..cell.checked_add(rest.len())?)
-            .take_while(|cell| Slot::of(self.kind, *cell) == slot)
-            .count();
+        let rest = self.bytes.get(at..)?;
+        let mut length = 0;
+        for n in 0..rest.len() {
+            if Slot::of(self.kind, cell.saturating_add(n)) != slot {
+                break;
+            }
+            length = n + 1;
+        }
+        if length == 0 {
+            return None;
+        }
         Some(Part {
             module: self.module,
             slot,

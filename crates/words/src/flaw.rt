@@ -40,17 +40,18 @@ impl Flaw {
 
 impl fmt::Display for Flaw {
     fn fmt<W: fmt::Write>(&self, f: &mut fmt::Formatter<W>) -> fmt::Result {
-        match self {
-            Flaw::Priority(priority) => write!(f, "its priority, {priority:02X}, is above 03"),
-            Flaw::Rtr(rtr) => write!(f, "its RTR, {rtr:02X}, is neither 00 nor 01"),
-            Flaw::Count(count) => write!(f, "its count, {count:02X}, is above 08"),
-            Flaw::RequestWithData(count) => {
-                write!(
-                    f,
-                    "with RTR 01 the count has to be 00, and it is {count:02X}"
-                )
-            }
-            Flaw::Leftover => f.write_str("data bytes past its count have to be 00"),
-        }
+        // one call that prints is proved sooner than one for each case; so in other files
+        let (before, byte, after) = match *self {
+            Flaw::Priority(priority) => ("its priority, ", priority, ", is above 03"),
+            Flaw::Rtr(rtr) => ("its RTR, ", rtr, ", is neither 00 nor 01"),
+            Flaw::Count(count) => ("its count, ", count, ", is above 08"),
+            Flaw::RequestWithData(count) => (
+                "with RTR 01 the count has to be 00, and it is ",
+                count,
+                "",
+            ),
+            Flaw::Leftover => return f.write_str("data bytes past its count have to be 00"),
+        };
+        write!(f, "{before}{byte:02X}{after}")
     }
 }

@@ -43,12 +43,10 @@ impl fmt::Display for InWords<'_> {
 fn subject<W: fmt::Write>(spoken: &InWords<'_>, f: &mut fmt::Formatter<W>) -> fmt::Result {
     let named = spoken.named();
     if spoken.frame.address == 0 {
-        f.write_str("to all modules: ")
-    } else if is_told(&spoken.frame) {
-        write!(f, "{named}: ")
-    } else {
-        write!(f, "to {named}: ")
+        return f.write_str("to all modules: ");
     }
+    let to = if is_told(&spoken.frame) { "" } else { "to " };
+    write!(f, "{to}{named}: ")
 }
 
 // Whether the frame tells of a module, and does not ask something of it.

@@ -31,10 +31,12 @@ pub(crate) fn interface<W: fmt::Write>(frame: &Frame, f: &mut fmt::Formatter<W>)
 // How long to lock channels.
 fn lock<W: fmt::Write>(channels: Several, time: u32, f: &mut fmt::Formatter<W>) -> fmt::Result {
     let lasting = LockTime(time);
-    match time {
-        0 => write!(f, "lock {channels} for 0 s, which does nothing"),
-        _ => write!(f, "lock {channels} {lasting}"),
-    }
+    let after = if time == 0 {
+        ", which does nothing"
+    } else {
+        ""
+    };
+    write!(f, "lock {channels} {lasting}{after}")
 }
 
 // What the reply to a type request tells.

@@ -24,9 +24,11 @@ impl fmt::Display for Lamps {
             (fast & !slow, "blinking fast"),
             (slow & fast, "blinking very fast"),
         ];
-        for (bits, mode) in groups.iter().filter(|(bits, _)| *bits != 0) {
-            let numbers = Numbers(*bits);
-            write!(f, "{numbers} {mode}; ")?;
+        for (bits, mode) in groups {
+            if bits != 0 {
+                let numbers = Numbers(bits);
+                write!(f, "{numbers} {mode}; ")?;
+            }
         }
         f.write_str(match lit {
             0xFF => "none out",
@@ -46,20 +48,26 @@ pub(crate) fn is_lamps(frame: &Frame) -> bool {
 // What a frame asks of lamps.
 pub(crate) fn lamp_command<W: fmt::Write>(frame: &Frame, f: &mut fmt::Formatter<W>) -> fmt::Result {
     let [command, bits, slow, fast, _, _, _, _] = frame.bytes;
+    if command == 0xF4 {
+        let lamps = Lamps {
+            on: bits,
+            slow,
+            fast,
+        };
+        return write!(f, "set all lamps: {lamps}");
+    }
     let named = Several::lamps(bits);
+    let mode = mode_name(command);
+    write!(f, "{named} {mode}")
+}
+
+// How a command has lamps be.
+fn mode_name(command: u8) -> &'static str {
     match command {
-        0xF4 => {
-            let lamps = Lamps {
-                on: bits,
-                slow,
-                fast,
-            };
-            write!(f, "set all lamps: {lamps}")
-        }
-        0xF5 => write!(f, "{named} out"),
-        0xF6 => write!(f, "{named} on"),
-        0xF7 => write!(f, "{named} blinking slowly"),
-        0xF8 => write!(f, "{named} blinking fast"),
-        _ => write!(f, "{named} blinking very fast"),
+        0xF5 => "out",
+        0xF6 => "on",
+        0xF7 => "blinking slowly",
+        0xF8 => "blinking fast",
+        _ => "blinking very fast",
     }
 }

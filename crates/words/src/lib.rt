@@ -24,6 +24,6 @@ pub use hex::Hex;
 pub use in_words::InWords;
 pub use lamps::Lamps;
 pub use modules::{ModuleType, Modules, Named};
-pub use numbers::{Numbers, Several};
+pub use numbers::Numbers;
 pub use relay::Contact;
 pub use times::{LockTime, Moment, Span};

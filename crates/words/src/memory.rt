@@ -35,24 +35,28 @@ pub(crate) fn memory<W: fmt::Write>(
     frame: &Frame,
     f: &mut fmt::Formatter<W>,
 ) -> fmt::Result {
-    let [command, _, _, a, b, c, d, _] = frame.bytes;
     let cell = first_cell(frame);
-    match command {
-        0xC9 => write!(f, "read four cells from {cell:04X} on"),
-        0xCA => write!(
-            f,
-            "write {a:02X} {b:02X} {c:02X} {d:02X} from cell {cell:04X} on"
-        ),
-        0xCC => write!(
-            f,
-            "{a:02X} {b:02X} {c:02X} {d:02X} stand from cell {cell:04X} on"
-        ),
-        0xFC => write!(f, "write {a:02X} to cell {cell:04X}"),
-        0xFD => write!(f, "read cell {cell:04X}"),
-        _ => write!(f, "{a:02X} stands in cell {cell:04X}"),
-    }?;
-    match kind {
-        Some(kind) if is_past_end(kind, frame) => f.write_str(", past the end: no effect"),
-        _ => Ok(()),
+    let (before, bytes, place, after) = match frame.bytes[0] {
+        0xC9 => ("read four cells from ", 0, "", " on"),
+        0xCA => ("write ", 4, "from cell ", " on"),
+        0xCC => ("", 4, "stand from cell ", " on"),
+        0xFC => ("write ", 1, "to cell ", ""),
+        0xFD => ("read cell ", 0, "", ""),
+        _ => ("", 1, "stands in cell ", ""),
+    };
+    f.write_str(before)?;
+    carried(frame, bytes, f)?;
+    let end = match kind {
+        Some(kind) if is_past_end(kind, frame) => ", past the end: no effect",
+        _ => "",
+    };
+    write!(f, "{place}{cell:04X}{after}{end}")
+}
+
+// So many of the bytes behind the cell's number, each with a space behind it.
+fn carried<W: fmt::Write>(frame: &Frame, number: usize, f: &mut fmt::Formatter<W>) -> fmt::Result {
+    for byte in frame.bytes.iter().skip(3).take(number) {
+        write!(f, "{byte:02X} ")?;
     }
+    Ok(())
 }

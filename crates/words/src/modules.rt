@@ -5,7 +5,7 @@ ghost use Rattle.words.specs.Sizes.{cells_of};
 use std::collections::BTreeMap;
 use std::fmt;
 
-#[derive(Clone, Copy, PartialEq, Eq)]
+#[derive(Clone, Copy)]
 pub enum ModuleType {
     Relay,
     Panel,

@@ -13,19 +13,20 @@ impl fmt::Display for Numbers {
         if bits == 0xFF {
             return f.write_str("1 to 8");
         }
-        let mut numbers = (1..=8u8).filter(|number| (bits >> (*number - 1)) & 1 == 1);
-        let Some(first) = numbers.next() else {
+        if bits == 0 {
             return f.write_str("none");
-        };
-        write!(f, "{first}")?;
+        }
         let last = 8u32.saturating_sub(bits.leading_zeros());
-        for number in numbers {
-            let joint = if u32::from(number) == last {
-                " and"
-            } else {
-                ","
-            };
-            write!(f, "{joint} {number}")?;
+        let mut joint = "";
+        for place in 0..8u32 {
+            if (bits >> place) & 1 == 1 {
+                let number = place + 1;
+                if number == last && !joint.is_empty() {
+                    joint = " and ";
+                }
+                write!(f, "{joint}{number}")?;
+                joint = ", ";
+            }
         }
         Ok(())
     }
@@ -33,7 +34,7 @@ impl fmt::Display for Numbers {
 
 // Channels, buttons or lamps that a byte names by its bits.
 #[derive(Clone, Copy)]
-pub struct Several {
+pub(crate) struct Several {
     noun: &'static str,
     bits: u8,
 }
@@ -45,19 +46,19 @@ impl Several {
         Several { noun, bits }
     }
 
-    pub fn channels(bits: u8) -> Self
+    pub(crate) fn channels(bits: u8) -> Self
         ensures { result.bits ≡ bits }
     {
         Several::named("channel", bits)
     }
 
-    pub fn buttons(bits: u8) -> Self
+    pub(crate) fn buttons(bits: u8) -> Self
         ensures { result.bits ≡ bits }
     {
         Several::named("button", bits)
     }
 
-    pub fn lamps(bits: u8) -> Self
+    pub(crate) fn lamps(bits: u8) -> Self
         ensures { result.bits ≡ bits }
     {
         Several::named("lamp", bits)
@@ -68,10 +69,11 @@ impl fmt::Display for Several {
     fn fmt<W: fmt::Write>(&self, f: &mut fmt::Formatter<W>) -> fmt::Result {
         let noun = self.noun;
         let numbers = Numbers(self.bits);
-        match self.bits.count_ones() {
-            0 => write!(f, "no {noun}"),
-            1 => write!(f, "{noun} {numbers}"),
-            _ => write!(f, "{noun}s {numbers}"),
-        }
+        let ending = match self.bits.count_ones() {
+            0 => return write!(f, "no {noun}"),
+            1 => "",
+            _ => "s",
+        };
+        write!(f, "{noun}{ending} {numbers}")
     }
 }

@@ -16,24 +16,26 @@ pub(crate) fn is_relay(frame: &Frame) -> bool {
 pub(crate) fn relay<W: fmt::Write>(frame: &Frame, f: &mut fmt::Formatter<W>) -> fmt::Result {
     let [command, bits, opened, _, _, _, _, _] = frame.bytes;
     let channels = Several::channels(bits & 0x0F);
-    match command {
-        0x00 => switched(bits, opened, f),
-        0x01 => write!(f, "open {channels}"),
-        0x02 => write!(f, "close {channels}"),
-        0x03 => run(channels, frame.seconds(), f),
-        0xFA => write!(f, "tell the status of {channels}"),
-        _ => reported(frame, f),
-    }
+    let verb = match command {
+        0x00 => return switched(bits, opened, f),
+        0x01 => "open",
+        0x02 => "close",
+        0x03 => return run(channels, frame.seconds(), f),
+        0xFA => "tell the status of",
+        _ => return reported(frame, f),
+    };
+    write!(f, "{verb} {channels}")
 }
 
 // How long channels are to run.
 fn run<W: fmt::Write>(channels: Several, time: u32, f: &mut fmt::Formatter<W>) -> fmt::Result {
     let span = Span(time);
-    match time {
-        0 => write!(f, "close {channels} for 0 s, which does nothing"),
-        0xFFFFFF => write!(f, "close {channels} without end"),
-        _ => write!(f, "close {channels} for {span}"),
-    }
+    let after = match time {
+        0xFFFFFF => return write!(f, "close {channels} without end"),
+        0 => ", which does nothing",
+        _ => "",
+    };
+    write!(f, "close {channels} for {span}{after}")
 }
 
 // How a channel is said to be.

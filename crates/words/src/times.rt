@@ -14,13 +14,15 @@ impl fmt::Display for Span {
             (seconds / 60 % 60, "min"),
             (seconds % 60, "s"),
         ];
-        let mut told = parts.iter().filter(|(number, _)| *number != 0);
-        let Some((number, unit)) = told.next() else {
+        if seconds == 0 {
             return f.write_str("0 s");
-        };
-        write!(f, "{number} {unit}")?;
-        for (number, unit) in told {
-            write!(f, " {number} {unit}")?;
+        }
+        let mut joint = "";
+        for (number, unit) in parts {
+            if number != 0 {
+                write!(f, "{joint}{number} {unit}")?;
+                joint = " ";
+            }
         }
         Ok(())
     }
@@ -80,10 +82,11 @@ pub(crate) fn is_clock(frame: &Frame) -> bool {
 pub(crate) fn clock<W: fmt::Write>(frame: &Frame, f: &mut fmt::Formatter<W>) -> fmt::Result {
     let [command, day, hour, minute, _, _, _, _] = frame.bytes;
     let moment = Moment { day, hour, minute };
-    match (command, frame.address) {
-        (0xD7, _) => f.write_str("tell the time"),
-        (_, 0) if moment.is_real() => write!(f, "set the clock to {moment}"),
-        (_, 0) => write!(f, "set the clock to {moment}, a time that does not exist"),
-        _ => write!(f, "the time is {moment}"),
-    }
+    let (before, after) = match (command, frame.address) {
+        (0xD7, _) => return f.write_str("tell the time"),
+        (_, 0) if moment.is_real() => ("set the clock to ", ""),
+        (_, 0) => ("set the clock to ", ", a time that does not exist"),
+        _ => ("the time is ", ""),
+    };
+    write!(f, "{before}{moment}{after}")
 }
