@@ -1,9 +1,9 @@
 -- What modules do on a memory command is what their memories do. Assumes nothing.
-use Rattle.std.proofs.Common.{◌≡◌, ℕ, ◌+◌, Bool, true, false, cond, ◌&&◌, eqb, [], ◌∷◌, ◌++◌, None, refl, ap, ◌∙◌}
+use Rattle.std.proofs.Common.{◌≡◌, ℕ, true, false, ◌&&◌, eqb, [], ◌++◌, None, refl, ap, ◌∙◌}
 use Rattle.std.proofs.lemmas.List.{append-nil}
 use Rattle.std.proofs.lemmas.Bool.{cond-false, and_parts, and_left, eqb-true}
 use Rattle.bus.specs.declared.frame.Frame.{Frame}
-use Rattle.bus.specs.Frames.{byte, is_command, message}
+use Rattle.bus.specs.Frames.{byte, is_command}
 use Rattle.bus.proofs.Commands.{other_command}
 use Rattle.station.specs.Kinds.{Record, Kind}
 use Rattle.station.specs.Rules.{stored}
@@ -18,12 +18,11 @@ use Rattle.buttons.specs.Buttons.{variant}
 use Rattle.buttons.specs.Buttons.{design as buttons_design}
 use Rattle.panel.specs.Panels.{lamps, pressed, status_sent, type_sent}
 use Rattle.panel.specs.Panels.{design as panel_design}
-use Rattle.relay.specs.declared.per_channel.PerChannel.{PerChannel}
 use Rattle.relay.specs.declared.relay.RelaySetup.{RelaySetup}
-use Rattle.relay.specs.Contacts.{Contact}
 use Rattle.relay.specs.Relays.{contacts, commanded, named_channels, carried_out, answer}
 use Rattle.relay.specs.Relays.{design as relay_design}
-use Rattle.relay.specs.Reports.{made, told, statuses, differ, changes, rise, risen, switched, report}
+use Rattle.relay.specs.Reports.{made}
+use Rattle.relay.proofs.Unchanged.{same_unreported}
 use Rattle.kinds.specs.Kinds.{EveryModule}
 
 -- a frame that asks for no status, no type and no time, and names no channel
@@ -50,24 +49,6 @@ pub record ByMemory (d : Design) : Type 0 where
   pub sends : (own : ℕ) (r : Record) (f : Frame) → MemoryOnly f → (d.command own r f).sent ≡ memory_sent own r.cells f
   pub stores : (own : ℕ) (r : Record) (f : Frame) → (d.command own r f).after.cells ≡ stored r.cells f
 
--- contacts that are as they were are not reported
-differ_same : (b : Bool) → differ b b ≡ false
-differ_same true = refl
-differ_same false = refl
-
-rise_same : (bit : ℕ) (b : Bool) → rise bit b b ≡ 0
-rise_same bit true = refl
-rise_same bit false = refl
-
-unreported : (own : ℕ) (x : PerChannel Contact) → report own (made x) x ≡ []
-unreported own x =
-    let m = made x in
-    let silent : statuses own (changes m m) x ≡ [] =
-    λ i. told own 1 (differ_same m.one i) x.one ++ (told own 2 (differ_same m.two i) x.two ++ (told own 4 (differ_same m.three i) x.three ++ told own 8 (differ_same m.four i) x.four)) in
-    let none : risen m m ≡ 0 =
-    λ i. rise_same 1 m.one i + (rise_same 2 m.two i + (rise_same 4 m.three i + rise_same 8 m.four i)) in
-    ap (λ t. t ++ switched own m m) silent ∙ ap (λ n. cond (eqb n 0 && eqb n 0) [] (message 0 own (0x00 ∷ n ∷ n ∷ 0 ∷ []) ∷ [])) none
-
 pub relay_by_memory : (s : RelaySetup) → ByMemory (relay_design s)
 relay_by_memory s =
     record {
@@ -75,7 +56,7 @@ relay_by_memory s =
           let x = contacts r in
           let quiet : answer own f (made x) (carried_out (commanded f) (named_channels f) x) ≡ [] =
           ap (λ a. answer own f (made x) (carried_out a (named_channels f) x)) m.no_action
-          ∙ (cond-false (is_command 0xFA 2 f) _ _ m.no_status ∙ unreported own x) in
+          ∙ (cond-false (is_command 0xFA 2 f) _ _ m.no_status ∙ same_unreported own x) in
           ap (λ t. memory_sent own r.cells f ++ t) quiet ∙ append-nil (memory_sent own r.cells f);
       stores = λ own r f. refl;
     }
