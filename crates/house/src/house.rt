@@ -15,7 +15,7 @@ pub use refusals::smallest_refusal_first;
 use station::Station;
 use std::collections::VecDeque;
 
-// One station and the frames that are pending, oldest first. Clauses name the part that they are about by a word. Memory is taken once, when the house is made: the pending
+// One station and the frames that are pending, oldest first. Memory is taken once, when the house is made: the pending
 // frames have 256 places, and the outbox has nine for each of 16 seats.
 #[derive(Drop)]
 pub struct House<S: Station> {

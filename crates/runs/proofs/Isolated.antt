@@ -10,7 +10,7 @@ use Rattle.station.specs.declared.event.Event.{Event}
 use Rattle.station.specs.declared.event.Event.TheVariants.{Heard, Second as ASecond, Pushed}
 use Rattle.station.specs.Kinds.{Seat}
 use Rattle.station.specs.Rules.{Lawful}
-use Rattle.station.specs.Seats.{after_all, sent_all}
+use Rattle.station.specs.Seats.{sent_all}
 use Rattle.house.specs.declared.call.Call.{Call}
 use Rattle.house.specs.declared.call.Call.TheVariants.{Put, Push, Second, Step, Clear, Record}
 use Rattle.house.specs.Answers.{cleared}
@@ -21,6 +21,7 @@ use Rattle.groups.specs.Links.{Uncrossed}
 use Rattle.runs.specs.Isolation.{Always, members, frames_of, concerns, concerning, all_sent, ClearsNothing, IsolationLaw}
 use Rattle.runs.proofs.Grouped.{all_kept, group_sends, group_after, near, Foreign, group_stays}
 use Rattle.runs.proofs.Alone.{Move, made, RunsAlone, at_end, same_end, Follows, moved_first}
+use Rattle.runs.proofs.Remembered.{lawful_after}
 
 -- a turn of the house, as the group sees it
 abbrev seen : (ℕ → Bool) → Turn → List Call → Move
@@ -102,12 +103,7 @@ module _ (g : ℕ → Bool) (ss : List Seat) (lawful : AllByRecursion Lawful ss)
       by (Some r) e = λ k. inr refl
       by None e = served_follows c q (none_applies (checks ss q c) e)
 
--- seats keep the rules after an event
-lawful_after : (e : Event) (ss : List Seat) → AllByRecursion Lawful ss → AllByRecursion Lawful (after_all e ss)
-lawful_after e [] l = tt
-lawful_after e (s ∷ ss) l = (λ es. l.0 (e ∷ es), lawful_after e ss l.1)
-
--- after every call too
+-- seats keep the rules after every call
 lawful_turn : (c : Call) (ss : List Seat) (q : List Frame) → AllByRecursion Lawful ss → AllByRecursion Lawful (turn ss q c).seats
 lawful_turn c ss q l = by (first_refusal (checks ss q c)) c q
   where

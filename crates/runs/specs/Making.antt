@@ -1,4 +1,4 @@
--- What one call adds to a replay. Only the parts of `replay` are told in these words. Assumes nothing.
+-- What one call adds to a replay, and the numbers that are read off a call and its answer. Assumes nothing.
 use Rattle.std.specs.Prelude.{◌≡◌, ℕ, List, [], ◌∷◌, ◌++◌}
 use Rattle.station.specs.Kinds.{Seat}
 use Rattle.house.specs.declared.call.Call.{Call}
