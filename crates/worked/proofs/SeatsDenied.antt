@@ -12,7 +12,6 @@ use Rattle.station.specs.declared.edge.Edge.TheVariants.{Press}
 use Rattle.station.specs.Kinds.{Record, Kind, Seat, reaches}
 use Rattle.station.specs.Rules.{cell, payload, put, stored, written, cells_after, Bears, Rules, Lawful, later}
 use Rattle.station.proofs.Puts.{length-put}
-
 use Rattle.worked.specs.Denied.{own_frame, other_frame, kept, odd, each_second, sound, later_loud, sized, SeatsDenied}
 
 length-stored : (cells : List ℕ) (f : Frame) → length (stored cells f) ≡ length cells
