@@ -2,12 +2,18 @@
 use bus::{Frame, Refusal};
 use house::{Call, House};
 use station::Station;
+use std::fmt;
 use std::process::Abort;
 use std::test::*;
 
 // What stands in each place of a buffer before a call. No module sends it.
 pub(crate) fn mark() -> Frame {
     Frame::from([2, 0x99, 0, 8, 1, 2, 3, 4, 5, 6, 7, 8])
+}
+
+// The two must be equal. An assertion is dear to prove, so all stand here.
+pub(crate) fn same<T: PartialEq + fmt::Debug + Copy>(rt: &impl Abort, got: T, expected: T) {
+    assert_eq!(rt; got, expected);
 }
 
 // A call's number of refusal, or 0; the buffer's places are as many as the call says.
@@ -54,10 +60,10 @@ pub(crate) fn refuses<S: Station>(
     let Some(part) = buffer.get_mut(..places(call)) else {
         return Err(Fail::new("no such buffer"));
     };
-    assert_eq!(rt; number_of(house, call, part), expected);
-    assert_eq!(rt; house.pending(), pending);
+    same(rt, number_of(house, call, part), expected);
+    same(rt, house.pending(), pending);
     for frame in buffer {
-        assert_eq!(rt; frame, mark());
+        same(rt, frame, mark());
     }
     Ok(())
 }
@@ -77,7 +83,7 @@ pub(crate) fn steps<S: Station>(
     for _ in 0..count {
         let mut buffer = [mark(); 144];
         let (sent, _) = served(house.step(&mut buffer))?;
-        assert_eq!(rt; sent, expected);
+        same(rt, sent, expected);
     }
     Ok(())
 }
@@ -89,8 +95,8 @@ pub(crate) fn begins_with(
     expected: &[[u8; 12]],
 ) -> Result<(), Fail> {
     for (index, body) in expected.iter().enumerate() {
-        assert_eq!(rt; buffer.get(index).copied(), Some(Frame::from(*body)));
+        same(rt, buffer.get(index).copied(), Some(Frame::from(*body)));
     }
-    assert_eq!(rt; buffer.get(expected.len()).copied(), Some(mark()));
+    same(rt, buffer.get(expected.len()).copied(), Some(mark()));
     Ok(())
 }

@@ -1,5 +1,5 @@
 // A chime at 21, which is no module of the collection, under a sieve beside those that are.
-use crate::calls::{served, steps};
+use crate::calls::{same, served, steps};
 use crate::stations::{Kinds, chime, house_over, kinds};
 use bus::Frame;
 use chime::Chime;
@@ -50,9 +50,9 @@ fn replayed_over<S: Station + Drop>(
     };
     let pending = [0, 0, 1, 3, 2, 1, 0];
     let sent = [0, 0, 1, 3, 0, 0, 0];
-    assert_eq!(rt; done.entries.len(), 7);
+    same(rt, done.entries.len(), 7);
     for (entry, (sent, pending)) in done.entries.iter().zip(sent.iter().zip(pending.iter())) {
-        assert_eq!(rt; entry.sent.len(), *sent);
+        same(rt, entry.sent.len(), *sent);
         if let Ok(
             Reply::Counts {
                 sent: told,
@@ -60,16 +60,16 @@ fn replayed_over<S: Station + Drop>(
             },
         ) = entry.answer
         {
-            assert_eq!(rt; told, *sent);
-            assert_eq!(rt; left, *pending);
+            same(rt, told, *sent);
+            same(rt, left, *pending);
         }
     }
     for entry in done.entries.iter().skip(3).take(1) {
         for frame in entry.sent.iter() {
-            assert_eq!(rt; *frame, Frame::from(STROKE));
+            same(rt, *frame, Frame::from(STROKE));
         }
     }
-    assert_eq!(rt; done.house.pending(), 0);
+    same(rt, done.house.pending(), 0);
     Ok(())
 }
 
@@ -132,12 +132,12 @@ fn remembered_in<S: Station + Drop>(rt: &impl Abort, mut house: House<S>) -> Res
         9,
     )?;
     for (place, byte) in [(35, 0xFF), (36, 0x77), (37, 0x20), (38, 9)] {
-        assert_eq!(rt; house.record(0x21, place), Some(byte));
+        same(rt, house.record(0x21, place), Some(byte));
     }
-    assert_eq!(rt; house.record(0x21, 39), None);
-    assert_eq!(rt; served(house.group(0x21, &mut buffer))?, 2);
-    assert_eq!(rt; buffer[0], 0x20);
-    assert_eq!(rt; buffer[1], 0x21);
-    assert_eq!(rt; buffer[2], 7);
+    same(rt, house.record(0x21, 39), None);
+    same(rt, served(house.group(0x21, &mut buffer))?, 2);
+    same(rt, buffer[0], 0x20);
+    same(rt, buffer[1], 0x21);
+    same(rt, buffer[2], 7);
     Ok(())
 }

@@ -1,5 +1,5 @@
 // The groups of a house. Chimes stand at 11 to 14; a chime links the one address that it follows.
-use crate::calls::{served, steps};
+use crate::calls::{same, served, steps};
 use crate::stations::{four, house_over, kinds, seventeen};
 use bus::{Frame, Refusal};
 use house::House;
@@ -25,9 +25,9 @@ fn lists<S: Station>(
     expected: &[u8],
 ) -> Result<(), Fail> {
     let mut buffer = [7; 256];
-    assert_eq!(rt; served(house.group(address, &mut buffer))?, expected.len());
+    same(rt, served(house.group(address, &mut buffer))?, expected.len());
     for (place, byte) in buffer.iter().enumerate() {
-        assert_eq!(rt; *byte, expected.get(place).copied().unwrap_or(7));
+        same(rt, *byte, expected.get(place).copied().unwrap_or(7));
     }
     Ok(())
 }
@@ -43,9 +43,9 @@ fn refuses<S: Station>(
     let number = house
         .group(address, buffer)
         .map_or_else(Refusal::number, |_| 0);
-    assert_eq!(rt; number, expected);
+    same(rt, number, expected);
     for byte in buffer.iter() {
-        assert_eq!(rt; *byte, 7);
+        same(rt, *byte, 7);
     }
     Ok(())
 }

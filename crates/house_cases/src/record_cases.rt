@@ -1,5 +1,5 @@
 // The bytes of records, in a house with a relay at 10, a panel at 20 and a button interface at 30.
-use crate::calls::{mark, served};
+use crate::calls::{mark, same, served};
 use crate::stations::{house_over, kinds};
 use bus::Frame;
 use house::House;
@@ -31,7 +31,7 @@ fn pass<S: Station>(rt: &impl Abort, house: &mut House<S>, body: [u8; 12]) -> Re
             served(house.step(&mut buffer))?;
         }
     }
-    assert_eq!(rt; house.pending(), 0);
+    same(rt, house.pending(), 0);
     Ok(())
 }
 
@@ -82,9 +82,9 @@ fn state_bytes(rt: HostRuntime) -> Result<(), Fail> {
 fn state_bytes_in<S: Station + Drop>(rt: &impl Abort, mut house: House<S>) -> Result<(), Fail> {
     pass(rt, &mut house, [3, 0x20, 0, 4, 0xF4, 1, 2, 4, 0, 0, 0, 0])?;
     let mut buffer = [mark(); 27];
-    assert_eq!(rt; served(house.push(0x20, 8, 0, &mut buffer))?, (1, 1));
+    same(rt, served(house.push(0x20, 8, 0, &mut buffer))?, (1, 1));
     holds(rt, &house, 0x20, 256, &[1, 2, 4, 0x80])?;
-    assert_eq!(rt; served(house.step(&mut buffer))?, (0, 0));
+    same(rt, served(house.step(&mut buffer))?, (0, 0));
     pass(
         rt,
         &mut house,
@@ -112,7 +112,7 @@ fn state_bytes_of_the_interface_in<S: Station + Drop>(
     )?;
     holds(rt, &house, 0x30, 1048, &[0, 1, 2, 3, 6, 23, 59, 0])?;
     let mut buffer = [mark(); 27];
-    assert_eq!(rt; served(house.second(&mut buffer))?, (0, 0));
+    same(rt, served(house.second(&mut buffer))?, (0, 0));
     holds(rt, &house, 0x30, 1048, &[0, 1, 2, 2, 6, 23, 59, 1])?;
     holds(rt, &house, 0x20, 255, &[0xFF, 0, 0, 0, 0])
 }
@@ -130,12 +130,12 @@ fn before_and_after_a_write_in<S: Station + Drop>(
     let mut buffer = [mark(); 27];
     served(house.put(Frame::from([3, 0x10, 0, 4, 0xFC, 3, 0xFF, 0x5A, 0, 0, 0, 0])))?;
     holds(rt, &house, 0x10, 1022, &[0xFF, 0xFF, 0])?;
-    assert_eq!(rt; served(house.step(&mut buffer))?, (0, 0));
+    same(rt, served(house.step(&mut buffer))?, (0, 0));
     holds(rt, &house, 0x10, 1022, &[0xFF, 0x5A, 0])?;
     holds(rt, &house, 0x20, 254, &[0xFF, 0xFF, 0])?;
     // the answer to a block stays pending
     served(house.put(Frame::from([3, 0x20, 0, 7, 0xCA, 0, 0xFC, 1, 2, 3, 4, 0])))?;
-    assert_eq!(rt; served(house.step(&mut buffer))?, (1, 1));
+    same(rt, served(house.step(&mut buffer))?, (1, 1));
     holds(rt, &house, 0x20, 251, &[0xFF, 1, 2, 3, 4, 0, 0, 0, 0])?;
     holds(rt, &house, 0x10, 0x00FC, &[0xFF, 0xFF, 0xFF, 0xFF])
 }

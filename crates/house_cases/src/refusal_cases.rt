@@ -1,6 +1,6 @@
 // What refuses the calls of a sound house of three seats, which takes 27 places; of reasons that apply together, the
 // one with the smallest number is told. How the builder's faults refuse is in `seat_cases`, and 10 is in `room_cases`.
-use crate::calls::{mark, refuses, served};
+use crate::calls::{mark, refuses, same, served};
 use crate::stations::{house_over, kinds};
 use bus::Frame;
 use house::{Call, House};
@@ -86,6 +86,6 @@ fn busy_in<S: Station + Drop>(rt: &impl Abort, mut house: House<S>) -> Result<()
     for (call, number) in table {
         refuses(rt, &mut house, call, number)?;
     }
-    assert_eq!(rt; house.pending(), 1);
+    same(rt, house.pending(), 1);
     Ok(())
 }

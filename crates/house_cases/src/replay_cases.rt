@@ -1,5 +1,5 @@
 // Replays, of a panel at 20 before a relay at 10: two seats, so 18 places.
-use crate::calls::{begins_with, mark, served};
+use crate::calls::{begins_with, mark, same, served};
 use crate::stations::{panel, relay};
 use bus::{Frame, Refusal};
 use house::Call;
@@ -84,18 +84,18 @@ fn answers(call: Call, told: Outcome) -> Line {
 
 // The entry must be the line.
 fn noted(rt: &impl Abort, entry: &Entry, line: &Line) -> Result<(), Fail> {
-    assert_eq!(rt; parts(entry.call), parts(line.call));
-    assert_eq!(rt; told(&entry.answer), line.told);
-    assert_eq!(rt; entry.sent.len(), line.sent.len());
+    same(rt, parts(entry.call), parts(line.call));
+    same(rt, told(&entry.answer), line.told);
+    same(rt, entry.sent.len(), line.sent.len());
     for (got, body) in entry.sent.iter().zip(line.sent.iter()) {
-        assert_eq!(rt; *got, Frame::from(*body));
+        same(rt, *got, Frame::from(*body));
     }
     Ok(())
 }
 
 // The entries must be these lines, in order.
 fn all_noted(rt: &impl Abort, entries: &[Entry], lines: &[Line]) -> Result<(), Fail> {
-    assert_eq!(rt; entries.len(), lines.len());
+    same(rt, entries.len(), lines.len());
     for (entry, line) in entries.iter().zip(lines.iter()) {
         noted(rt, entry, line)?;
     }
@@ -196,12 +196,12 @@ fn all_calls_over<S: Station + Drop>(
     };
     all_noted(rt, replayed.entries.as_slice(), &lines)?;
     let mut house = replayed.house;
-    assert_eq!(rt; house.pending(), 1);
-    assert_eq!(rt; house.record(0x20, 259), Some(0x80));
-    assert_eq!(rt; house.record(0x10, 1027), Some(0));
+    same(rt, house.pending(), 1);
+    same(rt, house.record(0x20, 259), Some(0x80));
+    same(rt, house.record(0x10, 1027), Some(0));
     let mut buffer = [mark(); 18];
-    assert_eq!(rt; served(house.step(&mut buffer))?, (0, 0));
-    assert_eq!(rt; served(house.second(&mut buffer))?, (0, 0));
+    same(rt, served(house.step(&mut buffer))?, (0, 0));
+    same(rt, served(house.second(&mut buffer))?, (0, 0));
     Ok(())
 }
 
@@ -234,8 +234,8 @@ fn only_refusals_over<S: Station + Drop>(
         return Err(Fail::new("unfinished"));
     };
     all_noted(rt, replayed.entries.as_slice(), &lines)?;
-    assert_eq!(rt; replayed.house.pending(), 0);
-    assert_eq!(rt; replayed.house.record(0x20, 259), Some(0));
+    same(rt, replayed.house.pending(), 0);
+    same(rt, replayed.house.record(0x20, 259), Some(0));
     Ok(())
 }
 
@@ -251,11 +251,11 @@ fn no_calls_over<S: Station + Drop>(
     let Ok(replayed) = replayed(rt, station, &[])? else {
         return Err(Fail::new("unfinished"));
     };
-    assert_eq!(rt; replayed.entries.len(), 0);
+    same(rt, replayed.entries.len(), 0);
     let mut house = replayed.house;
-    assert_eq!(rt; house.pending(), 0);
-    assert_eq!(rt; house.record(0x20, 255), Some(0xFF));
-    assert_eq!(rt; house.record(0x10, 1039), Some(0));
+    same(rt, house.pending(), 0);
+    same(rt, house.record(0x20, 255), Some(0xFF));
+    same(rt, house.record(0x10, 1039), Some(0));
     served(house.put(mark()))
 }
 
@@ -283,9 +283,9 @@ fn too_large_a_buffer_over<S: Station + Drop>(
     all_noted(rt, replayed.entries.as_slice(), &lines[..2])?;
     let mut house = replayed.house;
     let mut buffer = [mark(); 18];
-    assert_eq!(rt; house.record(0x20, 259), Some(0x80));
-    assert_eq!(rt; served(house.step(&mut buffer))?, (0, 0));
-    assert_eq!(rt; served(house.push(0x20, 8, 1, &mut buffer))?, (1, 1));
+    same(rt, house.record(0x20, 259), Some(0x80));
+    same(rt, served(house.step(&mut buffer))?, (0, 0));
+    same(rt, served(house.push(0x20, 8, 1, &mut buffer))?, (1, 1));
     begins_with(rt, &buffer, &[[0, 0x20, 0, 4, 0, 0, 0x80, 0, 0, 0, 0, 0]])
 }
 

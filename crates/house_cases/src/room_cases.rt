@@ -1,6 +1,6 @@
 // Room on the bus: with 16 seats and p pending frames a step is served if p - 1 + 9 * 16 is at most 256. So it is served up to
 // p = 113, and refused with 10 from there on.
-use crate::calls::{mark, refuses, served, steps};
+use crate::calls::{mark, refuses, same, served, steps};
 use crate::stations::{house_over, sixteen};
 use bus::Frame;
 use house::{Call, House};
@@ -32,36 +32,36 @@ fn strike<S: Station>(rt: &impl Abort, house: &mut House<S>, strokes: u8) -> Res
 
 fn just_room<S: Station>(rt: &impl Abort, house: &mut House<S>) -> Result<(), Fail> {
     strike(rt, house, 5)?;
-    assert_eq!(rt; house.pending(), 113);
+    same(rt, house.pending(), 113);
     steps(rt, house, 113, 0)?;
     refuses(rt, house, Call::Step { places: 144 }, 9)
 }
 
 fn no_room<S: Station>(rt: &impl Abort, house: &mut House<S>) -> Result<(), Fail> {
     strike(rt, house, 6)?;
-    assert_eq!(rt; house.pending(), 114);
+    same(rt, house.pending(), 114);
     refuses(rt, house, Call::Step { places: 144 }, 10)?;
     refuses(rt, house, Call::Step { places: 143 }, 4)?;
     refuses(rt, house, Call::Step { places: 144 }, 10)?;
-    assert_eq!(rt; served(house.clear())?, 114);
+    same(rt, served(house.clear())?, 114);
     served(house.put(mark()))?;
     steps(rt, house, 1, 0)?;
-    assert_eq!(rt; house.pending(), 0);
+    same(rt, house.pending(), 0);
     Ok(())
 }
 
 // All sixteen strike nine times, which are 144 frames: as many as an event can make.
 fn as_many_as_can_be<S: Station>(rt: &impl Abort, house: &mut House<S>) -> Result<(), Fail> {
     strike(rt, house, 9)?;
-    assert_eq!(rt; served(house.clear())?, 117);
+    same(rt, served(house.clear())?, 117);
     for address in 0x1D..0x20 {
         follow(rt, house, address, 9)?;
     }
     served(house.put(Frame::from([0, 0x77, 0, 4, 0, 1, 0, 0, 0, 0, 0, 0])))?;
     steps(rt, house, 1, 144)?;
-    assert_eq!(rt; house.pending(), 144);
+    same(rt, house.pending(), 144);
     refuses(rt, house, Call::Step { places: 160 }, 10)?;
-    assert_eq!(rt; served(house.clear())?, 144);
+    same(rt, served(house.clear())?, 144);
     Ok(())
 }
 

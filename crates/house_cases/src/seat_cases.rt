@@ -1,5 +1,5 @@
 // Houses of 16 seats, which is the most, and houses that were put together wrongly.
-use crate::calls::{mark, refuses, served};
+use crate::calls::{mark, refuses, same, served};
 use crate::stations::{chime, four, house_over, panel, seventeen, sixteen};
 use bus::Frame;
 use house::{Call, House};
@@ -62,14 +62,14 @@ fn sixteen_seats(rt: HostRuntime) -> Result<(), Fail> {
 fn sixteen_seats_in<S: Station + Drop>(rt: &impl Abort, mut house: House<S>) -> Result<(), Fail> {
     let mut buffer = [mark(); 144];
     refuses(rt, &mut house, Call::Second { places: 143 }, 4)?;
-    assert_eq!(rt; served(house.second(&mut buffer))?, (0, 0));
-    assert_eq!(rt; served(house.push(0x1F, 1, 0, &mut buffer))?, (1, 1));
+    same(rt, served(house.second(&mut buffer))?, (0, 0));
+    same(rt, served(house.push(0x1F, 1, 0, &mut buffer))?, (1, 1));
     refuses(rt, &mut house, Call::Step { places: 143 }, 4)?;
-    assert_eq!(rt; served(house.step(&mut buffer))?, (0, 0));
+    same(rt, served(house.step(&mut buffer))?, (0, 0));
     served(house.put(mark()))?;
-    assert_eq!(rt; served(house.clear())?, 1);
-    assert_eq!(rt; house.record(0x1F, 38), Some(0));
-    assert_eq!(rt; house.record(0x10, 36), Some(0xFF));
+    same(rt, served(house.clear())?, 1);
+    same(rt, house.record(0x1F, 38), Some(0));
+    same(rt, house.record(0x10, 36), Some(0xFF));
     Ok(())
 }
 
