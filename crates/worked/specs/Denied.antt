@@ -51,9 +51,9 @@ later_loud r (Pushed p) = record { after = r; sent = [] }
 abbrev pub sized : ℕ → ℕ → Seat
 sized size n = record { kind = kind_of size 0 [] (λ own r a. false) (λ own r e. record { after = kept r e; sent = [] }); address = 1; content = record { cells = replicate n 255; state = [] } }
 
--- no seat is lawful that does any of this: send at pushes elsewhere too; send ten frames; send with an address that it does
--- not link; lose what is written; write without a frame; lack a cell; have 1,025; err from the second second on. There is
--- no station without a seat, and no seat at 256
+-- the sound seat is lawful. None is that does any of this: send at pushes elsewhere too; send ten frames; send with an
+-- address that it does not link; lose what is written; err from the second second on; lack a cell; have 1,025. There is no
+-- station without a seat, and no seat at 256
 pub record SeatsDenied : Type 0 where
   pub allowed : Lawful sound
   pub anywhere : Lawful (odd (λ r e. record { after = kept r e; sent = own_frame ∷ [] })) → ⊥
