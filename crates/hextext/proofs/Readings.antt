@@ -1,6 +1,6 @@
 -- The loop of a reader. Assumes nothing.
-use Rattle.std.proofs.Common.{◌≡◌, ℕ, ◌+◌, ◌<◌, ◌≤◌, ◌==◌, ◌||◌, ◌⊎◌, inl, inr, Bool, true, false, cond, List, [], ◌∷◌, ◌++◌, length, drop, get_or, Option, Some, None, Result, Ok, Err, refl, sym, ap, subst, ◌∙◌, arith}
-use Rattle.std.proofs.lemmas.List.{append_assoc, append-nil, length-append, drop_all, drop_more}
+use Rattle.std.proofs.Common.{◌≡◌, ℕ, ◌+◌, ◌<◌, ◌≤◌, ◌==◌, ◌||◌, ◌⊎◌, inl, inr, Bool, true, false, cond, List, [], ◌∷◌, ◌++◌, length, take, drop, get_or, Option, Some, None, Result, Ok, Err, refl, sym, ap, subst, ◌∙◌, arith}
+use Rattle.std.proofs.lemmas.List.{append_assoc, append-nil, length-append, drop_all, drop_more, take_more, take-append-drop}
 use Rattle.hextext.specs.declared.error.Position.{Position}
 use Rattle.hextext.specs.declared.error.ReadError.{ReadError}
 use Rattle.hextext.specs.declared.error.ReadError.TheVariants.{BadDigit, LoneDigit}
@@ -9,7 +9,7 @@ use Rattle.hextext.specs.declared.mode.Mode.TheVariants.{Between, Second, Commen
 use Rattle.hextext.specs.declared.mode.Step.{Step}
 use Rattle.hextext.specs.declared.mode.Step.TheVariants.{To, Byte}
 use Rattle.hextext.specs.Digits.{digit_value}
-use Rattle.hextext.specs.Reading.{after, is_gap, begun, ended, step, before, followed, reading, meaning, HighFits}
+use Rattle.hextext.specs.Reading.{after, is_gap, begun, ended, step, before, followed, reading, meaning, SaysAByte, HighFits}
 
 -- the bytes so far, and then what follows
 abbrev pub prepend : List ℕ → Result (List ℕ) ReadError → Result (List ℕ) ReadError
@@ -73,12 +73,16 @@ step-fits Between at c next h = between-fits (is_gap c) (c == 35) at c next h
 step-fits (Second high first) at c next h = ended-fits high first at c (digit_value c) next h
 step-fits Comment at c next h = comment-fits (c == 10) next h
 
--- what is known of a reader: its place is near, and what it has read and what follows are what the text says
+-- what is known of a reader: its place is near, and it has read what the text says so far, whatever follows
 pub record Reads (text : List ℕ) (i : ℕ) (items : List ℕ) (mode : Mode) (at : Position) : Type 0 where
   pub line : at.line ≤ i + 1
   pub column : at.column ≤ i + 1
   pub fits : HighFits mode
-  pub so_far : meaning text ≡ prepend items (reading mode at (drop i text))
+  pub so_far : (rest : List ℕ) → meaning (take i text ++ rest) ≡ prepend items (reading mode at rest)
+
+-- so what it has read and what follows are what the text says
+reads_all : (text : List ℕ) (i : ℕ) (items : List ℕ) (mode : Mode) (at : Position) → Reads text i items mode at → meaning text ≡ prepend items (reading mode at (drop i text))
+reads_all text i items mode at r = ap meaning (sym (take-append-drop i text)) ∙ r.so_far (drop i text)
 
 module _ (text : List ℕ) (i : ℕ) (items : List ℕ) (mode : Mode) (at : Position) where
   line_after : (c : ℕ) → at.line ≤ i + 1 → (after at c).line ≤ i + 1 + 1
@@ -95,12 +99,15 @@ module _ (text : List ℕ) (i : ℕ) (items : List ℕ) (mode : Mode) (at : Posi
       by true = omega arith
       by false = omega arith
 
-  -- what follows begins with a step
-  stepped : (s : Result Step ReadError) → i < length text → step mode at (get_or text i 0) ≡ s → reading mode at (drop i text) ≡ followed s (λ next. reading next (after at (get_or text i 0)) (drop (i + 1) text))
-  stepped s h e =
-      ap (reading mode at) (drop_more text i 0 h)
-      ∙ reading-cons mode at (get_or text i 0) (drop (i + 1) text)
-      ∙ ap (λ r. followed r (λ next. reading next (after at (get_or text i 0)) (drop (i + 1) text))) e
+  -- one byte more of the text
+  front : (rest : List ℕ) → i < length text → take (i + 1) text ++ rest ≡ take i text ++ get_or text i 0 ∷ rest
+  front rest h = ap (λ t. t ++ rest) (take_more text i 0 h) ∙ append_assoc (take i text) (get_or text i 0 ∷ []) rest
+
+  -- is a step
+  stepped : (s : Result Step ReadError) (rest : List ℕ) → step mode at (get_or text i 0) ≡ s → reading mode at (get_or text i 0 ∷ rest) ≡ followed s (λ next. reading next (after at (get_or text i 0)) rest)
+  stepped s rest e =
+      reading-cons mode at (get_or text i 0) rest
+      ∙ ap (λ r. followed r (λ next. reading next (after at (get_or text i 0)) rest)) e
 
   -- which leads on,
   pub reads_to : (next : Mode) → i < length text → step mode at (get_or text i 0) ≡ Ok (To next) → Reads text i items mode at → Reads text (i + 1) items next (after at (get_or text i 0))
@@ -109,7 +116,7 @@ module _ (text : List ℕ) (i : ℕ) (items : List ℕ) (mode : Mode) (at : Posi
         line = line_after (get_or text i 0) r.line;
         column = column_after (get_or text i 0) r.column;
         fits = step-fits mode at (get_or text i 0) next e;
-        so_far = r.so_far ∙ ap (prepend items) (stepped (Ok (To next)) h e);
+        so_far = λ rest. ap meaning (front rest h) ∙ r.so_far (get_or text i 0 ∷ rest) ∙ ap (prepend items) (stepped (Ok (To next)) rest e);
       }
 
   -- or ends a byte,
@@ -119,20 +126,30 @@ module _ (text : List ℕ) (i : ℕ) (items : List ℕ) (mode : Mode) (at : Posi
         line = line_after (get_or text i 0) r.line;
         column = column_after (get_or text i 0) r.column;
         fits = tt;
-        so_far = r.so_far ∙ ap (prepend items) (stepped (Ok (Byte b)) h e) ∙ prepend-before items b _;
+        so_far = λ rest. ap meaning (front rest h) ∙ r.so_far (get_or text i 0 ∷ rest) ∙ ap (prepend items) (stepped (Ok (Byte b)) rest e) ∙ prepend-before items b _;
       }
 
   -- or is a fault
   pub reads_fault : (fault : ReadError) → i < length text → step mode at (get_or text i 0) ≡ Err fault → Reads text i items mode at → meaning text ≡ Err fault
-  reads_fault fault h e r = r.so_far ∙ ap (prepend items) (stepped (Err fault) h e)
+  reads_fault fault h e r = reads_all text i items mode at r ∙ ap (prepend items) (ap (reading mode at) (drop_more text i 0 h) ∙ stepped (Err fault) (drop (i + 1) text) e)
 
   -- where a byte ends, the text says something
   pub reads_some : (b : ℕ) → i < length text → step mode at (get_or text i 0) ≡ Ok (Byte b) → Reads text i items mode at → meaning text ≡ Ok [] → ⊥
-  reads_some b h e r none = prepend-some items b _ (sym (reads_byte b h e r).so_far ∙ none)
+  reads_some b h e r none = prepend-some items b _ (sym (reads_all text (i + 1) (items ++ b ∷ []) Between (after at (get_or text i 0)) (reads_byte b h e r)) ∙ none)
+
+  -- and so does the part of it up to there
+  pub reads_needed : (b : ℕ) → i < length text → step mode at (get_or text i 0) ≡ Ok (Byte b) → Reads text i items mode at → SaysAByte text
+  unfolding reading
+  reads_needed b h e r = (
+    i + 1,
+    items ++ b ∷ [],
+    ap meaning (sym (append-nil (take (i + 1) text))) ∙ (reads_byte b h e r).so_far [] ∙ ap Ok (append-nil (items ++ b ∷ [])),
+    omega (arith, length-append items (b ∷ [])),
+  )
 
   -- at the end of a text
   at_end : length text ≤ i → Reads text i items mode at → meaning text ≡ prepend items (reading mode at [])
-  at_end h r = r.so_far ∙ ap (λ rest. prepend items (reading mode at rest)) (drop_all i text h)
+  at_end h r = reads_all text i items mode at r ∙ ap (λ rest. prepend items (reading mode at rest)) (drop_all i text h)
 
 -- a text that ends after a first digit
 pub reads_lone : (text : List ℕ) (i : ℕ) (items : List ℕ) (mode : Mode) (high : ℕ) (first at : Position) → mode ≡ Second high first → length text ≤ i → Reads text i items mode at → meaning text ≡ Err (LoneDigit first)

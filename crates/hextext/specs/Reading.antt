@@ -1,5 +1,5 @@
 -- What a text says. Assumes nothing.
-use Rattle.std.specs.Prelude.{ℕ, ◌+◌, ◌*◌, ◌<◌, ◌==◌, ◌||◌, ⊤, Bool, if◌then◌else◌, List, [], ◌∷◌, Option, Some, None, Result, Ok, Err}
+use Rattle.std.specs.Prelude.{◌≡◌, ℕ, ◌+◌, ◌*◌, ◌<◌, ◌==◌, ◌||◌, ⊤, Bool, if◌then◌else◌, List, [], ◌∷◌, length, take, Option, Some, None, Result, Ok, Err}
 use Rattle.hextext.specs.declared.error.Position.{Position}
 use Rattle.hextext.specs.declared.error.ReadError.{ReadError}
 use Rattle.hextext.specs.declared.error.ReadError.TheVariants.{BadDigit, LoneDigit}
@@ -69,6 +69,10 @@ reading mode at (c ∷ rest) = followed (step mode at c) (λ next. reading next 
 -- what a whole text says
 abbrev pub meaning : List ℕ → Result (List ℕ) ReadError
 meaning text = reading Between (record { line = 1; column = 1 }) text
+
+-- some first part of a text says a byte, which takes memory
+abbrev pub SaysAByte : List ℕ → Type 0
+SaysAByte text = (n : ℕ) × (bytes : List ℕ) × (meaning (take n text) ≡ Ok bytes) × (0 < length bytes)
 
 -- the first digit of a byte is a digit
 abbrev pub HighFits : Mode → Type 0

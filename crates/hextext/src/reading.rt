@@ -1,6 +1,6 @@
 // How a text is read.
 ghost use Rattle.std.specs.Prelude.{◌≡◌, ◌<◌, ◌⊎◌, [], IsOk, IfOk, IfErr};
-ghost use Rattle.hextext.specs.Reading.{after, is_gap, between, second, within_comment, step, meaning, HighFits};
+ghost use Rattle.hextext.specs.Reading.{after, is_gap, between, second, within_comment, step, meaning, SaysAByte, HighFits};
 ghost use Rattle.hextext.specs.RoundTrip.{RoundTrip};
 
 use crate::digits::digit_value;
@@ -12,7 +12,7 @@ use std::alloc::Global;
 // breaks are free between bytes, and `#` begins a comment that ends with its line.
 pub fn read(heap: Global, text: &[u8]) -> Result<Vec<u8>, ReadError>
     ensures ok { IfOk result (λ bytes. meaning text.now ≡ Ok bytes.items) }
-    ensures fault { IfErr result (λ e. (e ≡ ReadError.NoMemory) ⊎ (meaning text.now ≡ Err e)) }
+    ensures fault { IfErr result (λ e. ((e ≡ ReadError.NoMemory) × SaysAByte text.now) ⊎ (meaning text.now ≡ Err e)) }
     ensures memory { meaning text.now ≡ Ok [] → IsOk result }
     ensures round_trip { RoundTrip }
 {

@@ -3,8 +3,8 @@ use Rattle.std.proofs.Common.{◌≡◌, ℕ, List, [], ◌++◌, take, Some, No
 use Rattle.std.specs.Option.{option_map, IfSome}
 use Rattle.std.specs.Result.{IfOk}
 use Rattle.input.specs.declared.form.Form.{Form}
-use Rattle.input.specs.declared.form.Form.TheVariants.{Binary, Hex}
-use Rattle.input.specs.Forms.{Reads, form_of}
+use Rattle.input.specs.declared.form.Form.TheVariants.{Hex}
+use Rattle.input.specs.Forms.{Reads}
 
 -- what is read with a limit is the first part
 pub limited : (given : Option (List ℕ)) (limit : ℕ) (before all : List ℕ) → limit ≡ 60000 → before ≡ [] → IfSome (option_map (take limit) given) (λ xs. all ≡ before ++ xs) → IfSome given (λ xs. all ≡ take 60000 xs)

@@ -50,3 +50,23 @@ fn forms(rt: HostRuntime) -> Result<(), Fail> {
     }
     Ok(())
 }
+
+// What is said of a text at fault, which no contract tells.
+#[test]
+fn faults_are_told(rt: HostRuntime) -> Result<(), Fail> {
+    let table: [(&[u8], &str); 2] = [
+        (b"04\n0g", "line 2, column 2: not a hexadecimal digit"),
+        (
+            b"04 0 5",
+            "line 1, column 4: a digit alone; a byte is two digits",
+        ),
+    ];
+    for (given, wanted) in table {
+        let Err(error) = read_any(rt.alloc(), given) else {
+            return Err(Fail::new("read"));
+        };
+        let text = format!(in rt.alloc(); "{error}")?;
+        assert_eq!(rt; text.as_str(), wanted);
+    }
+    Ok(())
+}

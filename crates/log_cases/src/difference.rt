@@ -7,6 +7,7 @@ use std::io;
 #[derive(Clone, Copy)]
 pub(crate) enum Subject {
     Answers,
+    Lines,
     Record { address: u8, place: usize },
 }
 
@@ -22,6 +23,7 @@ impl Difference {
     pub(crate) fn print(&self, rt: &HostRuntime) -> Result<()> {
         match self.subject {
             Subject::Answers => println!(rt; "  answers")?,
+            Subject::Lines => println!(rt; "  answers as lines of text")?,
             Subject::Record { address, place } => {
                 println!(rt; "  record of {address:02X} from {place} on")?
             }

@@ -3,8 +3,9 @@ use crate::case::Case;
 use crate::difference::{Difference, Subject};
 use crate::look::Look;
 use crate::modules::new_bench;
-use anyhow::{Result, anyhow};
-use benchlog::Bench;
+use anyhow::{Context, Result, anyhow};
+use benchlog::{Bench, Reader};
+use hextext::{HexLines, write_line};
 use kinds::BenchModules;
 use std::alloc::Global;
 
@@ -17,6 +18,7 @@ pub(crate) fn differences(heap: Global, case: &Case<'_>) -> Result<Vec<Differenc
     let expected = hextext::read(heap, case.answers.as_bytes())?;
     let mut differences = Vec::new(heap);
     note(&mut differences, Subject::Answers, expected, found)?;
+    look_at_lines(heap, log.as_slice(), &mut differences)?;
     if !case.looks.is_empty() {
         for text in case.looks.split(';') {
             let look = Look::read(text).ok_or_else(|| anyhow!("this is no look:{text}"))?;
@@ -24,6 +26,28 @@ pub(crate) fn differences(heap: Global, case: &Case<'_>) -> Result<Vec<Differenc
         }
     }
     Ok(differences)
+}
+
+// Runs a log to lines of text, and notes them if they are not a line for the answer to each item.
+fn look_at_lines(heap: Global, log: &[u8], differences: &mut Vec<Difference>) -> Result<()> {
+    let mut found = Vec::new(heap);
+    new_bench(heap)?.run(log, &mut HexLines::new(&mut found))?;
+    let mut bench = new_bench(heap)?;
+    let mut expected = Vec::new(heap);
+    let mut buffer = [0; 360];
+    for item in Reader::new(log) {
+        match item {
+            Ok(item) => {
+                let count = bench
+                    .answer(&item, &mut buffer[..])
+                    .map_err(|refusal| anyhow!("{refusal}"))?;
+                let answer = buffer.get(..count).context("too many bytes")?;
+                write_line(answer, &mut expected)?;
+            }
+            Err(fault) => write_line(&fault.bytes(), &mut expected)?,
+        }
+    }
+    note(differences, Subject::Lines, expected, found)
 }
 
 // Takes a look, and notes what it finds if that is something else.
