@@ -25,7 +25,11 @@ fn lists<S: Station>(
     expected: &[u8],
 ) -> Result<(), Fail> {
     let mut buffer = [7; 256];
-    same(rt, served(house.group(address, &mut buffer))?, expected.len());
+    same(
+        rt,
+        served(house.group(address, &mut buffer))?,
+        expected.len(),
+    );
     for (place, byte) in buffer.iter().enumerate() {
         same(rt, *byte, expected.get(place).copied().unwrap_or(7));
     }
