@@ -2,7 +2,8 @@
 use bus::Refusal;
 use house::Call;
 use std::fmt;
-use words::{Flaw, ModuleType, Modules};
+use terms::{Flaw, ModuleType};
+use words::Modules;
 
 // A call that was refused, and how many frames waited then.
 #[derive(Clone, Copy)]

@@ -5,7 +5,8 @@ use crate::state::{ClockTime, Contacts, Locks, State};
 use benchlog::{Fault, ItemKind};
 use house::House;
 use kinds::BenchModules;
-use words::{ModuleType, Numbers};
+use terms::ModuleType;
+use words::Numbers;
 
 // Tells why a log can be read no further.
 pub fn tell_fault(rt: &HostRuntime, log: &[u8], fault: Fault) -> anyhow::Result<()> {

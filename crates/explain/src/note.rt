@@ -2,7 +2,8 @@
 use house::Call;
 use runs::{Entry, Reply};
 use std::fmt;
-use words::{ModuleType, Modules};
+use terms::ModuleType;
+use words::Modules;
 
 // Of a call and its answer; of a refusal, and of frames that were sent, lines of their own tell.
 #[derive(Clone, Copy)]

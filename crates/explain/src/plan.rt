@@ -1,5 +1,5 @@
 // Which modules stand at which addresses: those of `bench_modules`.
-use words::ModuleType;
+use terms::ModuleType;
 
 pub const RELAY: u8 = 0x10;
 

@@ -2,7 +2,8 @@
 use house::House;
 use kinds::BenchModules;
 use std::fmt;
-use words::{Contact, Lamps, LockTime, ModuleType, Moment};
+use terms::ModuleType;
+use words::{Contact, Lamps, LockTime, Moment};
 
 // The state bytes of a module, as its record has them.
 #[derive(Clone, Copy)]

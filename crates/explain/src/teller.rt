@@ -8,7 +8,8 @@ use house::Call;
 use runs::Entry;
 use std::alloc::Global;
 use std::collections::VecDeque;
-use words::{Cells, InWords, Modules, Named, edge_name};
+use terms::edge_name;
+use words::{Cells, InWords, Modules, Named};
 
 // The modules by their addresses, the frames that wait, and the quiet seconds that are still to be told.
 #[derive(Drop)]

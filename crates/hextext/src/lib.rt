@@ -7,8 +7,6 @@ mod hex_lines;
 mod messages;
 mod mode;
 mod reading;
-#[cfg(test)]
-mod tests;
 mod writing;
 
 pub use error::{Position, ReadError};

@@ -11,8 +11,8 @@ use module::Seat;
 use panel::{Panel, PanelSetup};
 use station::{Edge, Rail};
 use std::collections::BTreeMap;
+use terms::ModuleType;
 use trace::Trace;
-use words::ModuleType;
 
 const PANEL: u8 = 0x30;
 

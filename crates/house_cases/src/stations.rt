@@ -1,26 +1,61 @@
-// Houses of one to 17 modules. Chimes, which are small, wherever it does not matter which module stands there.
+// The stations that houses are made of. A kind comes with the addresses of its modules, which may be faulty.
 use buttons::ButtonInterface;
 use chime::Chime;
-use house::House;
 use interface::{InterfaceSetup, Serial};
 use kinds::{new_button_interface, new_panel, new_relay};
 use module::Seat;
 use panel::{Panel, PanelSetup};
 use relay::{PerChannel, Relay, RelaySetup, Timers};
-use station::{Rail, Station};
-use std::alloc::Global;
-use std::test::*;
+use station::{Rail, Sieve};
 
-pub(crate) type FourChimes = Rail<Rail<Chime, Chime>, Rail<Chime, Chime>>;
+// A button interface, a panel, a relay, and a chime under a sieve, in this order.
+pub(crate) type Modules = Rail<
+    Rail<Seat<ButtonInterface>, Seat<Panel>>,
+    Rail<Seat<Relay>, Sieve<Chime>>,
+>;
 
-pub(crate) type SixteenChimes = Rail<Rail<FourChimes, FourChimes>, Rail<FourChimes, FourChimes>>;
+type Four = Rail<Rail<Chime, Chime>, Rail<Chime, Chime>>;
 
-pub(crate) type Seventeen = Rail<SixteenChimes, Seat<Panel>>;
+// Sixteen chimes: four at addresses of choice, then twelve at 14 to 1F.
+pub(crate) type Sixteen = Rail<Rail<Four, Four>, Rail<Four, Four>>;
 
-// A button interface at 30, a panel at 20 and a relay at 10, in this order.
-pub(crate) type Kinds = Rail<Seat<ButtonInterface>, Rail<Seat<Panel>, Seat<Relay>>>;
+// A panel behind sixteen chimes.
+pub(crate) type Seventeen = Rail<Sixteen, Seat<Panel>>;
 
-pub(crate) fn relay(address: u8) -> Seat<Relay> {
+pub(crate) fn modules([interface, panel, relay, chime]: [u8; 4]) -> Modules {
+    Rail {
+        first: Rail {
+            first: new_interface(interface),
+            second: new_panel(panel, PANEL),
+        },
+        second: Rail {
+            first: timed_relay(relay),
+            second: Sieve {
+                below: Chime::new(chime, TONE),
+            },
+        },
+    }
+}
+
+const PANEL: PanelSetup = PanelSetup { year: 8, week: 17 };
+
+const TONE: u8 = 5;
+
+fn new_interface(address: u8) -> Seat<ButtonInterface> {
+    let setup = InterfaceSetup {
+        serial: Serial {
+            high: 0x12,
+            low: 0x34,
+        },
+        map: 2,
+        year: 11,
+        week: 22,
+    };
+    new_button_interface(address, setup)
+}
+
+// Its timers are 5 and 70,000 seconds.
+fn timed_relay(address: u8) -> Seat<Relay> {
     let timers = Timers {
         first: 5,
         second: 70_000,
@@ -36,51 +71,20 @@ pub(crate) fn relay(address: u8) -> Seat<Relay> {
     new_relay(address, setup)
 }
 
-pub(crate) fn panel(address: u8) -> Seat<Panel> {
-    new_panel(address, PanelSetup { year: 8, week: 17 })
-}
-
-// Its tone is 5.
-pub(crate) fn chime(address: u8) -> Chime {
-    Chime::new(address, 5)
-}
-
-pub(crate) fn kinds() -> Kinds {
-    let setup = InterfaceSetup {
-        serial: Serial {
-            high: 0x12,
-            low: 0x34,
-        },
-        map: 2,
-        year: 11,
-        week: 22,
-    };
-    Rail {
-        first: new_button_interface(0x30, setup),
-        second: Rail {
-            first: panel(0x20),
-            second: relay(0x10),
-        },
-    }
-}
-
-// Chimes at these addresses.
-pub(crate) fn four(addresses: [u8; 4]) -> FourChimes {
-    let [a, b, c, d] = addresses;
+fn four([a, b, c, d]: [u8; 4]) -> Four {
     Rail {
         first: Rail {
-            first: chime(a),
-            second: chime(b),
+            first: Chime::new(a, TONE),
+            second: Chime::new(b, TONE),
         },
         second: Rail {
-            first: chime(c),
-            second: chime(d),
+            first: Chime::new(c, TONE),
+            second: Chime::new(d, TONE),
         },
     }
 }
 
-// Four at addresses of choice, then twelve at 14 to 1F.
-pub(crate) fn sixteen(addresses: [u8; 4]) -> SixteenChimes {
+pub(crate) fn sixteen(addresses: [u8; 4]) -> Sixteen {
     Rail {
         first: Rail {
             first: four(addresses),
@@ -93,14 +97,10 @@ pub(crate) fn sixteen(addresses: [u8; 4]) -> SixteenChimes {
     }
 }
 
-// A panel at an address of choice behind sixteen chimes.
-pub(crate) fn seventeen(addresses: [u8; 4], last: u8) -> Seventeen {
+// With the panel at the last address.
+pub(crate) fn seventeen([a, b, c, last]: [u8; 4]) -> Seventeen {
     Rail {
-        first: sixteen(addresses),
-        second: panel(last),
+        first: sixteen([a, b, c, 0x13]),
+        second: new_panel(last, PANEL),
     }
-}
-
-pub(crate) fn house_over<S: Station + Drop>(heap: Global, station: S) -> Result<House<S>, Fail> {
-    House::new(heap, station).map_err(|_| Fail::new("no memory"))
 }

@@ -3,8 +3,6 @@
 
 mod form;
 mod reading;
-#[cfg(test)]
-mod tests;
 
 pub use form::Form;
 pub use reading::{LIMIT, read_any, read_log};

@@ -11,7 +11,7 @@ use module::Seat;
 use panel::Panel;
 use relay::Relay;
 use station::{Edge, Rail, Sieve};
-use words::ModuleType;
+use terms::ModuleType;
 
 const INTERFACE: u8 = 0x30;
 

@@ -18,8 +18,8 @@ use record::show_record;
 use runs::{Replayed, replay};
 use station::Station;
 use std::collections::BTreeMap;
+use terms::ModuleType;
 use trace::Shown;
-use words::ModuleType;
 
 fn main(rt: HostRuntime) -> anyhow::Result<()> {
     run(&rt)

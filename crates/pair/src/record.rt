@@ -1,7 +1,7 @@
 // Records, as an installer reads them.
 use house::House;
 use station::Station;
-use words::ModuleType;
+use terms::ModuleType;
 
 // Shows the record of a module in one line: its cells, except those that are as in a new memory, and its state bytes.
 pub fn show_record<S: Station>(

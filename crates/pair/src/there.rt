@@ -9,7 +9,7 @@ use module::Seat;
 use panel::Panel;
 use relay::Relay;
 use station::{Edge, Rail, Sieve};
-use words::ModuleType;
+use terms::ModuleType;
 
 const OTHER_RELAY: u8 = 0x50;
 

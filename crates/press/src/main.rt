@@ -12,9 +12,10 @@ use panel::{Panel, PanelSetup};
 use relay::{PerChannel, Relay, RelaySetup, Timers};
 use station::{Edge, Rail, Sieve};
 use std::collections::BTreeMap;
+use terms::ModuleType;
 use told::Told;
 use trace::Trace;
-use words::{ModuleType, Numbers};
+use words::Numbers;
 
 const PANEL: u8 = 0x20;
 

@@ -6,7 +6,8 @@ use bus::{Frame, Refusal};
 use house::Call;
 use runs::Reply;
 use std::alloc::Global;
-use words::{Hex, InWords, Modules, edge_name};
+use terms::edge_name;
+use words::{Hex, InWords, Modules};
 
 // The kinds of the modules by address, the frames in the order in which they came onto the bus, and how many of them
 // passed.

@@ -1,10 +1,11 @@
 // What the cells of a memory are for, and what bytes in them mean.
 use crate::linked::Linked;
 use crate::memory::{first_cell, is_past_end};
-use crate::modules::{ModuleType, Modules, Named};
+use crate::modules::{Modules, Named};
 use crate::record::{Asked, LinkRecord};
 use bus::Frame;
 use std::fmt;
+use terms::ModuleType;
 
 // What a cell is part of.
 #[derive(Clone, Copy, PartialEq, Eq)]

@@ -4,12 +4,13 @@ use crate::hex::{Data, Hex};
 use crate::interface::{interface, is_interface};
 use crate::lamps::{is_lamps, lamp_command};
 use crate::memory::{is_memory, memory};
-use crate::modules::{ModuleType, Modules, Named};
+use crate::modules::{Modules, Named};
 use crate::panel::{is_panel, panel};
 use crate::relay::{is_relay, relay};
 use crate::times::{clock, is_clock};
 use bus::Frame;
 use std::fmt;
+use terms::ModuleType;
 
 // A frame, and the modules that it may be from, to or about.
 #[derive(Clone, Copy)]

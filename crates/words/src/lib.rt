@@ -3,7 +3,6 @@
 
 mod buttons;
 mod cells;
-mod flaw;
 mod hex;
 mod in_words;
 mod interface;
@@ -17,13 +16,11 @@ mod record;
 mod relay;
 mod times;
 
-pub use buttons::edge_name;
 pub use cells::{Cells, Part};
-pub use flaw::Flaw;
 pub use hex::Hex;
 pub use in_words::InWords;
 pub use lamps::Lamps;
-pub use modules::{ModuleType, Modules, Named};
+pub use modules::{Modules, Named};
 pub use numbers::Numbers;
 pub use relay::Contact;
 pub use times::{LockTime, Moment, Span};

@@ -1,7 +1,8 @@
 // What a link is to.
-use crate::modules::{ModuleType, Named};
+use crate::modules::Named;
 use crate::numbers::Several;
 use std::fmt;
+use terms::ModuleType;
 
 // The address of a module and the bits of its buttons, or of its channels if it is a relay, as far as they are known.
 #[derive(Clone, Copy)]

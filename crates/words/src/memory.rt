@@ -1,7 +1,7 @@
 // What frames say of memories.
-use crate::modules::ModuleType;
 use bus::Frame;
 use std::fmt;
+use terms::ModuleType;
 
 pub(crate) fn is_memory(frame: &Frame) -> bool {
     matches!(

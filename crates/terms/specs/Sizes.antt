@@ -1,7 +1,7 @@
 -- How large memories are. Assumes nothing.
 use Rattle.std.specs.Prelude.{ℕ}
-use Rattle.words.specs.declared.modules.ModuleType.{ModuleType}
-use Rattle.words.specs.declared.modules.ModuleType.TheVariants.{Relay, Panel, Buttons}
+use Rattle.terms.specs.declared.modules.ModuleType.{ModuleType}
+use Rattle.terms.specs.declared.modules.ModuleType.TheVariants.{Relay, Panel, Buttons}
 
 -- how many cells a module of that type has
 abbrev pub cells_of : ModuleType → ℕ

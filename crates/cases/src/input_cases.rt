@@ -1,6 +1,6 @@
 // Logs of all lengths about the limit, and which form is read.
-use crate::form::Form;
-use crate::reading::{read_any, read_log};
+use crate::text_cases::same;
+use input::{Form, read_any, read_log};
 use std::test::Fail;
 
 #[test]
@@ -12,20 +12,24 @@ fn limit(rt: HostRuntime) -> Result<(), Fail> {
         (60_000, 60_000),
         (60_001, 60_000),
     ] {
-        let bytes = vec![in rt.alloc(); 2u8; given]?;
-        let log = read_log(rt.alloc(), bytes.as_slice(), Form::Binary).map_err(|_| Fail::new(
-            "unread",
-        ))?;
-        assert_eq!(rt; log.len(), taken, "of {given}");
-        let log = read_any(rt.alloc(), bytes.as_slice()).map_err(|_| Fail::new("unread"))?;
-        assert_eq!(rt; log.len(), taken, "of {given} in either form");
-        let digits = vec![in rt.alloc(); b'2'; 2 * given]?;
-        let log = read_log(rt.alloc(), digits.as_slice(), Form::Hex).map_err(|_| Fail::new(
-            "unread",
-        ))?;
-        assert_eq!(rt; log.len(), taken, "of {given} as text");
+        let heap = rt.alloc();
+        let bytes = vec![in heap; 2u8; given]?;
+        let digits = vec![in heap; b'2'; 2 * given]?;
+        let read = [
+            length(read_log(heap, bytes.as_slice(), Form::Binary))?,
+            length(read_any(heap, bytes.as_slice()))?,
+            length(read_log(heap, digits.as_slice(), Form::Hex))?,
+        ];
+        assert_eq!(rt; read, [taken; 3]);
     }
     Ok(())
+}
+
+fn length(log: anyhow::Result<Vec<u8>>) -> Result<usize, Fail> {
+    match log {
+        Ok(log) => Ok(log.len()),
+        Err(_) => Err(Fail::new("unread")),
+    }
 }
 
 // A log as it is given, and what is read of it; none, where a text is at fault.
@@ -43,7 +47,7 @@ fn forms(rt: HostRuntime) -> Result<(), Fail> {
     ];
     for (given, wanted) in table {
         match (read_any(rt.alloc(), given), wanted) {
-            (Ok(log), Some(wanted)) => assert_eq!(rt; log.as_slice(), wanted),
+            (Ok(log), Some(wanted)) => same(&rt, log.as_slice(), wanted),
             (Err(_), None) => {}
             _ => return Err(Fail::new("not as wanted")),
         }
@@ -66,7 +70,7 @@ fn faults_are_told(rt: HostRuntime) -> Result<(), Fail> {
             return Err(Fail::new("read"));
         };
         let text = format!(in rt.alloc(); "{error}")?;
-        assert_eq!(rt; text.as_str(), wanted);
+        same(&rt, text.as_bytes(), wanted.as_bytes());
     }
     Ok(())
 }

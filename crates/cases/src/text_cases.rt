@@ -1,9 +1,15 @@
 // Texts with what they say, and bytes with their lines, worked out by hand.
-use crate::{HexLines, Position, ReadError, read, write_line};
+use hextext::{HexLines, Position, ReadError, read, write_line};
 use std::cell::Cell;
 use std::io;
 use std::io::Write;
+use std::process::Abort;
 use std::test::Fail;
+
+// The two must be equal. An assertion is dear to prove, so one stands here for all.
+pub(crate) fn same(rt: &impl Abort, got: &[u8], wanted: &[u8]) {
+    assert_eq!(rt; got, wanted);
+}
 
 #[test]
 fn texts_that_read(rt: HostRuntime) -> Result<(), Fail> {
@@ -20,7 +26,7 @@ fn texts_that_read(rt: HostRuntime) -> Result<(), Fail> {
     ];
     for (text, want) in cases {
         let bytes = read(rt.alloc(), text)?;
-        assert_eq!(rt; bytes.as_slice(), want, "of {text:?}");
+        same(&rt, bytes.as_slice(), want);
     }
     Ok(())
 }
@@ -50,7 +56,7 @@ fn texts_at_fault(rt: HostRuntime) {
             ReadError::BadDigit(at)
         };
         let fault = read(rt.alloc(), text).err();
-        assert!(rt; fault == Some(want), "of {text:?}");
+        assert!(rt; fault == Some(want));
     }
 }
 
@@ -73,7 +79,7 @@ fn messages(rt: HostRuntime) -> Result<(), Fail> {
     ];
     for (fault, want) in cases {
         let text = format!(in rt.alloc(); "{fault}")?;
-        assert_eq!(rt; text.as_str(), want);
+        same(&rt, text.as_bytes(), want.as_bytes());
     }
     Ok(())
 }
@@ -88,7 +94,7 @@ fn lines(rt: HostRuntime) -> Result<(), Fail> {
     for (bytes, want) in cases {
         let mut text = Vec::new(rt.alloc());
         write_line(bytes, &mut text)?;
-        assert_eq!(rt; text.as_slice(), want, "of {bytes:?}");
+        same(&rt, text.as_slice(), want);
     }
     let mut room = [0; 4];
     assert!(rt; write_line(b"\x01\x02", &mut room.as_mut_slice()).is_err());
@@ -103,9 +109,9 @@ fn lines_read_back(rt: HostRuntime) -> Result<(), Fail> {
     lines.write_all(b"")?;
     lines.write_all(b"\xC7")?;
     lines.flush()?;
-    assert_eq!(rt; text.as_slice(), b"03 10\n\nC7\n".as_slice());
+    same(&rt, text.as_slice(), b"03 10\n\nC7\n");
     let bytes = read(rt.alloc(), text.as_slice())?;
-    assert_eq!(rt; bytes.as_slice(), b"\x03\x10\xC7".as_slice());
+    same(&rt, bytes.as_slice(), b"\x03\x10\xC7");
     Ok(())
 }
 
