@@ -12,6 +12,9 @@ pub fn item<D: fmt::Display + Drop>(
     Ok(())
 }
 
+// Where a line begins that explains one under an item.
+pub const FURTHER_IN: &str = "                 ";
+
 // A line under that of an item.
 pub fn under<D: fmt::Display + Drop>(rt: &HostRuntime, words: D) -> anyhow::Result<()> {
     println!(rt; "               {words}")?;

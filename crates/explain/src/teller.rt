@@ -1,6 +1,6 @@
 // How the items of a log are told: what is done, and under it what comes of it.
 use crate::advice::Advice;
-use crate::lines::{item, under};
+use crate::lines::{FURTHER_IN, item, under};
 use crate::note::Note;
 use crate::quiet::{Quiet, is_quiet};
 use bus::{Frame, Refusal};
@@ -9,7 +9,7 @@ use runs::Entry;
 use std::alloc::Global;
 use std::collections::VecDeque;
 use terms::edge_name;
-use words::{Cells, InWords, Modules, Named};
+use words::{CellLines, InWords, Modules, Named};
 
 // The modules by their addresses, the frames that wait, and the quiet seconds that are still to be told.
 #[derive(Drop)]
@@ -130,14 +130,12 @@ impl Teller {
 
     // What the cells mean that a frame writes or tells of.
     fn tell_cells(&self, rt: &HostRuntime, frame: &Frame) -> anyhow::Result<()> {
-        let Some(cells) = Cells::of(&self.modules, frame) else {
-            return Ok(());
+        let cells = CellLines {
+            modules: &self.modules,
+            frame,
+            margin: FURTHER_IN,
         };
-        for at in 0..4 {
-            if let Some(part) = cells.part(at) {
-                under(rt, format_args!("  {part}"))?;
-            }
-        }
+        print!(rt; "{cells}")?;
         Ok(())
     }
 

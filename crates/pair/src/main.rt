@@ -20,6 +20,7 @@ use station::Station;
 use std::collections::BTreeMap;
 use terms::ModuleType;
 use trace::Shown;
+use words::HexAndWords;
 
 fn main(rt: HostRuntime) -> anyhow::Result<()> {
     run(&rt)
@@ -82,7 +83,11 @@ fn show_group<S: Station>(
     let sent = all_sent(rt.alloc(), done.entries.as_slice())?;
     let frames = frames_of(rt.alloc(), &GROUP, sent.as_slice())?;
     for frame in &frames {
-        shown.line(rt, "sent", *frame)?;
+        let told = HexAndWords {
+            modules: &shown.modules,
+            frame: *frame,
+        };
+        println!(rt; "sent  {told}")?;
     }
     Ok(frames)
 }

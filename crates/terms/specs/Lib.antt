@@ -1,2 +1,3 @@
 pub mod Sizes
 pub mod EdgeNames
+pub mod Flaws

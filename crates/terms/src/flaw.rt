@@ -2,6 +2,7 @@
 ghost use Rattle.std.specs.Prelude.{◌≡◌};
 ghost use Rattle.std.specs.Option.{is_none};
 ghost use Rattle.bus.specs.Frames.{well_formed};
+ghost use Rattle.terms.specs.Flaws.{flaw_of};
 
 use bus::Frame;
 use std::fmt;
@@ -21,7 +22,8 @@ pub enum Flaw {
 impl Flaw {
     // None if the frame is well formed.
     pub fn of(frame: &Frame) -> Option<Self>
-        ensures { is_none result ≡ well_formed frame.now }
+        ensures flaw { result ≡ flaw_of frame.now }
+        ensures none { is_none result ≡ well_formed frame.now }
     {
         match *frame {
             Frame { priority: 4.., .. } => Some(Flaw::Priority(frame.priority)),

@@ -7,13 +7,13 @@ use house::Call;
 use runs::Reply;
 use std::alloc::Global;
 use terms::edge_name;
-use words::{Hex, InWords, Modules};
+use words::{HexAndWords, Modules};
 
 // The kinds of the modules by address, the frames in the order in which they came onto the bus, and how many of them
 // passed.
 #[derive(Drop)]
 pub struct Shown {
-    modules: Modules,
+    pub modules: Modules,
     frames: Vec<Frame>,
     passed: usize,
 }
@@ -47,6 +47,7 @@ impl Shown {
         answer: Result<Reply, Refusal>,
         sent: &[Frame],
     ) -> anyhow::Result<()>
+        ensures modules { self.new.modules ≡ self.old.modules }
         ensures frames { OnOk result (self.new.frames.items ≡ self.old.frames.items ++ arrived call answer sent.now) }
         ensures passed { OnOk result (self.new.passed ≡ passed_by call answer (length self.old.frames.items) self.old.passed) }
     {
@@ -90,6 +91,7 @@ impl Shown {
         answer: Result<Reply, Refusal>,
         sent: &[Frame],
     ) -> anyhow::Result<()>
+        ensures modules { self.new.modules ≡ self.old.modules }
         ensures frames { OnOk result (self.new.frames.items ≡ self.old.frames.items ++ arrived call answer sent.now) }
         ensures passed { OnOk result (self.new.passed ≡ passed_by call answer (length self.old.frames.items) self.old.passed) }
     {
@@ -105,6 +107,7 @@ impl Shown {
 
     // Each frame that was sent.
     fn show_sent(&mut self, rt: &HostRuntime, sent: &[Frame]) -> anyhow::Result<()>
+        ensures modules { self.new.modules ≡ self.old.modules }
         ensures frames { OnOk result (self.new.frames.items ≡ self.old.frames.items ++ sent.now) }
         ensures passed { self.new.passed ≡ self.old.passed }
     {
@@ -117,6 +120,7 @@ impl Shown {
 
     // Which frames came onto the bus or passed by a call that was served.
     fn note(&mut self, call: Call) -> anyhow::Result<()>
+        ensures modules { self.new.modules ≡ self.old.modules }
         ensures frames { OnOk result (self.new.frames.items ≡ self.old.frames.items ++ frame_put call) }
         ensures passed { OnOk result (self.new.passed ≡ passed_after call (length self.old.frames.items) self.old.passed) }
     {
@@ -130,13 +134,12 @@ impl Shown {
     }
 
     // A line with what happens to a frame, the frame, and the frame in words.
-    pub fn line(&self, rt: &HostRuntime, what: &str, frame: Frame) -> anyhow::Result<()> {
-        let hex = Hex(frame);
-        let spoken = InWords {
+    fn line(&self, rt: &HostRuntime, what: &str, frame: Frame) -> anyhow::Result<()> {
+        let told = HexAndWords {
             modules: &self.modules,
             frame,
         };
-        println!(rt; "{what:6}{hex}  {spoken}")?;
+        println!(rt; "{what:6}{told}")?;
         Ok(())
     }
 }

@@ -52,9 +52,33 @@ impl Slot {
     }
 }
 
+// The cells that a frame writes, or that it tells the bytes of: a line for each pair, for each record and for plain cells,
+// behind a margin. There is none where they are not of a known module.
+#[derive(Clone, Copy)]
+pub struct CellLines<'a> {
+    pub modules: &'a Modules,
+    pub frame: &'a Frame,
+    pub margin: &'a str,
+}
+
+impl fmt::Display for CellLines<'_> {
+    fn fmt<W: fmt::Write>(&self, f: &mut fmt::Formatter<W>) -> fmt::Result {
+        let Some(cells) = Cells::of(self.modules, self.frame) else {
+            return Ok(());
+        };
+        let margin = self.margin;
+        for at in 0..4 {
+            if let Some(part) = cells.part(at) {
+                writeln!(f, "{margin}{part}")?;
+            }
+        }
+        Ok(())
+    }
+}
+
 // Cells of a module one after the other, with their bytes.
 #[derive(Clone, Copy)]
-pub struct Cells<'a> {
+struct Cells<'a> {
     module: Named<'a>,
     kind: ModuleType,
     first: usize,
@@ -62,8 +86,7 @@ pub struct Cells<'a> {
 }
 
 impl<'a> Cells<'a> {
-    // The cells that a frame writes, or that it tells the bytes of; none if they are not of a known module.
-    pub fn of(modules: &'a Modules, frame: &'a Frame) -> Option<Self> {
+    fn of(modules: &'a Modules, frame: &'a Frame) -> Option<Self> {
         let number = match (frame.bytes[0], frame.count) {
             (0xCA | 0xCC, 7) => 4,
             (0xFC | 0xFE, 4) => 1,
@@ -86,7 +109,7 @@ impl<'a> Cells<'a> {
     }
 
     // The part that begins at one of the cells, counted from 0; none where the part before goes on.
-    pub fn part(&self, at: usize) -> Option<Part<'a>> {
+    fn part(&self, at: usize) -> Option<Part<'a>> {
         let cell = self.first.checked_add(at)?;
         let slot = Slot::of(self.kind, cell);
         if at > 0 && Slot::of(self.kind, cell - 1) == slot {
@@ -114,7 +137,7 @@ impl<'a> Cells<'a> {
 
 // Cells that belong to one pair, to one record or to neither, from one of them on.
 #[derive(Clone, Copy)]
-pub struct Part<'a> {
+struct Part<'a> {
     module: Named<'a>,
     slot: Slot,
     cell: usize,

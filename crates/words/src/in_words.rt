@@ -40,6 +40,24 @@ impl fmt::Display for InWords<'_> {
     }
 }
 
+// A frame in hexadecimal, and then in words.
+#[derive(Clone, Copy)]
+pub struct HexAndWords<'a> {
+    pub modules: &'a Modules,
+    pub frame: Frame,
+}
+
+impl fmt::Display for HexAndWords<'_> {
+    fn fmt<W: fmt::Write>(&self, f: &mut fmt::Formatter<W>) -> fmt::Result {
+        let hex = Hex(self.frame);
+        let words = InWords {
+            modules: self.modules,
+            frame: self.frame,
+        };
+        write!(f, "{hex}  {words}")
+    }
+}
+
 // Which module the frame is to, or tells of. Address 0 is for all of them.
 fn subject<W: fmt::Write>(spoken: &InWords<'_>, f: &mut fmt::Formatter<W>) -> fmt::Result {
     let named = spoken.named();

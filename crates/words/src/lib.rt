@@ -16,9 +16,9 @@ mod record;
 mod relay;
 mod times;
 
-pub use cells::{Cells, Part};
+pub use cells::CellLines;
 pub use hex::Hex;
-pub use in_words::InWords;
+pub use in_words::{HexAndWords, InWords};
 pub use lamps::Lamps;
 pub use modules::{Modules, Named};
 pub use numbers::Numbers;
