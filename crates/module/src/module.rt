@@ -89,7 +89,8 @@ pub trait ModuleKind: Module {
     // A new module: each cell holds 0xFF.
     fn new(setup: Self::Setup) -> Self
         ensures design { Self.design result ≡ design_with setup }
-        ensures content { Self.content result ≡ record { cells = replicate MEMORY 255; state = fresh } };
+        ensures cells { (Self.content result).cells ≡ replicate MEMORY 255 }
+        ensures state { (Self.content result).state ≡ fresh };
 
     // The constants are the sizes of the design.
     ghost sizes: { (m : Self) → ((Self.design m).memory ≡ MEMORY) × ((Self.design m).buttons ≡ BUTTONS) };
