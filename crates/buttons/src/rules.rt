@@ -1,5 +1,5 @@
 // What a button interface with eight buttons does.
-ghost use Rattle.std.specs.Prelude.{◌≡◌, replicate, refl};
+ghost use Rattle.std.specs.Prelude.{replicate, refl};
 ghost use Rattle.buttons.specs.Buttons.{variant, design, content};
 ghost use Rattle.interface.proofs.Orderly.{interface_orderly};
 ghost use Rattle.std.proofs.Common.{rules};
@@ -51,38 +51,30 @@ impl Module for ButtonInterface {
         self.interface.names(address)
     }
 
-    fn memory(&self) -> usize {
-        Self::MEMORY
-    }
-
-    fn buttons(&self) -> u8 {
-        Self::BUTTONS
-    }
-
     fn byte(&self, place: usize) -> Option<u8> {
         self.interface.byte(place)
     }
 }
 
 impl ModuleKind for ButtonInterface {
+    type Setup = InterfaceSetup;
+
     ghost MEMORY = { 1024 };
-
-    ghost BUTTONS = { 8 };
-
-    ghost sizes = { λ _. (refl, refl) };
 
     const MEMORY: usize = CELLS;
 
+    ghost BUTTONS = { 8 };
+
     const BUTTONS: u8 = 8;
 
-    type Setup = InterfaceSetup;
+    ghost design_with = { design };
 
-    // Fresh cells, lamps out, no button pressed, no channel locked, and the clock at Monday 00:00.
-    fn new(setup: InterfaceSetup) -> Self
-        ensures setup { result.setup ≡ setup }
-        ensures cells { (content result).cells ≡ replicate 1024 255 }
-        ensures state { (content result).state ≡ replicate 32 0 }
-    {
+    ghost fresh = { replicate 32 0 };
+
+    ghost sizes = { λ _. (refl, refl) };
+
+    // Lamps out, no button pressed, no channel locked, and the clock at Monday 00:00.
+    fn new(setup: InterfaceSetup) -> Self {
         ButtonInterface {
             setup,
             interface: Interface::new(),

@@ -2,7 +2,8 @@
 #![tactic(auto)]
 
 ghost use Rattle.std.specs.Prelude.{◌≡◌, [], ◌∷◌};
-ghost use Rattle.kinds.specs.Kinds.{relay_kind, panel_kind, buttons_kind, new_seat};
+ghost use Rattle.terms.specs.Sizes.{cells_of};
+ghost use Rattle.kinds.specs.Kinds.{relay_kind, panel_kind, buttons_kind, EveryRelay, EveryPanel, EveryButtonInterface, new_seat};
 ghost use Rattle.kinds.specs.Bench.{bench_seats};
 
 use buttons::ButtonInterface;
@@ -11,6 +12,7 @@ use module::{Module, ModuleKind, Seat};
 use panel::{Panel, PanelSetup};
 use relay::{PerChannel, Relay, RelaySetup, Timers};
 use station::{Rail, Sieve, Station};
+use terms::ModuleType;
 
 // A relay: all channels open.
 pub fn new_relay(address: u8, setup: RelaySetup) -> Seat<Relay>
@@ -67,4 +69,13 @@ pub fn bench_modules() -> BenchModules
             second: new_panel(0x30, PanelSetup { year: 1, week: 1 }),
         },
     }
+}
+
+// The cells that `terms` counts in a module are those of its kind.
+pub fn cells_are_of_the_kinds() -> u8
+    ensures relay { EveryRelay (λ k. k.memory ≡ cells_of ModuleType.Relay) }
+    ensures panel { EveryPanel (λ k. k.memory ≡ cells_of ModuleType.Panel) }
+    ensures buttons { EveryButtonInterface (λ k. k.memory ≡ cells_of ModuleType.Buttons) }
+{
+    0
 }

@@ -1,5 +1,5 @@
 // The interface of a single module.
-ghost use Rattle.std.specs.Prelude.{◌≡◌, ℕ, length};
+ghost use Rattle.std.specs.Prelude.{◌≡◌, ℕ, List, length, replicate};
 ghost use Rattle.bus.specs.Outboxes.{Room, Sends};
 ghost use Rattle.station.specs.Kinds.{Record, bytes};
 ghost use Rattle.station.specs.Seats.{nth};
@@ -57,15 +57,6 @@ pub trait Module {
     fn names(&self, own: u8, address: u8) -> bool
         ensures { result ≡ (design self.now).names own (content self.now) address };
 
-    // How many cells its memory has. Each kind answers this and the next by its constants, which a method that stands here
-    // could not see.
-    fn memory(&self) -> usize
-        ensures { result ≡ (design self.now).memory };
-
-    // How many buttons it has.
-    fn buttons(&self) -> u8
-        ensures { result ≡ (design self.now).buttons };
-
     // The byte at a place of its record.
     fn byte(&self, place: usize) -> Option<u8>
         ensures { result ≡ nth place (bytes (content self.now)) };
@@ -77,6 +68,8 @@ pub trait Module {
 
 // A kind of module: what all modules of the kind share, and the setup that a single one is made with.
 pub trait ModuleKind: Module {
+    type Setup;
+
     // How many cells the memory has.
     ghost MEMORY: { ℕ };
 
@@ -87,11 +80,18 @@ pub trait ModuleKind: Module {
 
     const BUTTONS: u8;
 
-    type Setup;
+    // How a module with a setup is designed.
+    ghost design_with: { Self.Setup → Design };
 
-    // A new module; each kind says what it holds.
-    fn new(setup: Self::Setup) -> Self;
+    // The state bytes of a new module.
+    ghost fresh: { List ℕ };
 
-    // These are the sizes of the design.
+    // A new module: each cell holds 0xFF.
+    fn new(setup: Self::Setup) -> Self
+        ensures design { Self.design result ≡ design_with setup }
+        ensures cells { (Self.content result).cells ≡ replicate MEMORY 255 }
+        ensures state { (Self.content result).state ≡ fresh };
+
+    // The constants are the sizes of the design.
     ghost sizes: { (m : Self) → ((Self.design m).memory ≡ MEMORY) × ((Self.design m).buttons ≡ BUTTONS) };
 }

@@ -5,7 +5,7 @@ ghost use Rattle.module.specs.Designs.{designed};
 ghost use Rattle.std.proofs.Common.{arith};
 ghost use Rattle.module.specs.Orderly.{orderly_lawful};
 
-use crate::module::Module;
+use crate::module::{Module, ModuleKind};
 use bus::{Frame, Outbox};
 use station::{Addresses, Event, Station};
 
@@ -40,7 +40,7 @@ impl<M: Module> Seat<M> {
     }
 }
 
-impl<M: Module> Station for Seat<M> {
+impl<M: ModuleKind> Station for Seat<M> {
     ghost seats = { λ s. record { kind = designed (M.Module.design s.module); address = s.address; content = M.Module.content s.module } ∷ [] };
 
     ghost stands = { λ s.
@@ -87,7 +87,7 @@ impl<M: Module> Station for Seat<M> {
     // A line each for this and the next: what they answer elsewhere differs.
     fn buttons(&self, address: u8) -> u8 {
         if address == self.address {
-            self.module.buttons()
+            M::BUTTONS
         } else {
             0
         }

@@ -1,5 +1,5 @@
 // What a panel does.
-ghost use Rattle.std.specs.Prelude.{◌≡◌, replicate, [], ◌∷◌, refl};
+ghost use Rattle.std.specs.Prelude.{replicate, refl};
 ghost use Rattle.bus.specs.Outboxes.{Room, Sends};
 ghost use Rattle.panel.specs.Panels.{design, content, status_sent, type_sent};
 ghost use Rattle.std.proofs.Common.{rules};
@@ -67,14 +67,6 @@ impl Module for Panel {
         false
     }
 
-    fn memory(&self) -> usize {
-        Self::MEMORY
-    }
-
-    fn buttons(&self) -> u8 {
-        Self::BUTTONS
-    }
-
     fn byte(&self, place: usize) -> Option<u8> {
         let Lamps { on, slow, fast } = self.lamps;
         let state = [on, slow, fast, self.buttons.pressed];
@@ -83,24 +75,24 @@ impl Module for Panel {
 }
 
 impl ModuleKind for Panel {
+    type Setup = PanelSetup;
+
     ghost MEMORY = { 256 };
-
-    ghost BUTTONS = { 8 };
-
-    ghost sizes = { λ _. (refl, refl) };
 
     const MEMORY: usize = CELLS;
 
+    ghost BUTTONS = { 8 };
+
     const BUTTONS: u8 = 8;
 
-    type Setup = PanelSetup;
+    ghost design_with = { design };
 
-    // Fresh cells, lamps out, no button pressed.
-    fn new(setup: PanelSetup) -> Self
-        ensures setup { result.setup ≡ setup }
-        ensures cells { (content result).cells ≡ replicate 256 255 }
-        ensures state { (content result).state ≡ 0 ∷ 0 ∷ 0 ∷ 0 ∷ [] }
-    {
+    ghost fresh = { replicate 4 0 };
+
+    ghost sizes = { λ _. (refl, refl) };
+
+    // Lamps out, no button pressed.
+    fn new(setup: PanelSetup) -> Self {
         Panel {
             setup,
             memory: Memory::new(),

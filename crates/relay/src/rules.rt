@@ -246,38 +246,30 @@ impl Module for Relay {
         self.pairs.names(address)
     }
 
-    fn memory(&self) -> usize {
-        Self::MEMORY
-    }
-
-    fn buttons(&self) -> u8 {
-        Self::BUTTONS
-    }
-
     fn byte(&self, place: usize) -> Option<u8> {
         self.pairs.memory.byte(&self.channels.bytes(), place)
     }
 }
 
 impl ModuleKind for Relay {
+    type Setup = RelaySetup;
+
     ghost MEMORY = { 1024 };
-
-    ghost BUTTONS = { 0 };
-
-    ghost sizes = { λ _. (refl, refl) };
 
     const MEMORY: usize = CELLS;
 
+    ghost BUTTONS = { 0 };
+
     const BUTTONS: u8 = 0;
 
-    type Setup = RelaySetup;
+    ghost design_with = { design };
 
-    // Fresh cells, each channel open.
-    fn new(setup: RelaySetup) -> Self
-        ensures setup { result.setup ≡ setup }
-        ensures cells { (content result).cells ≡ replicate 1024 255 }
-        ensures state { (content result).state ≡ replicate 16 0 }
-    {
+    ghost fresh = { replicate 16 0 };
+
+    ghost sizes = { λ _. (refl, refl) };
+
+    // Each channel is open.
+    fn new(setup: RelaySetup) -> Self {
         Relay {
             setup,
             pairs: Pairs::new(),
