@@ -4,11 +4,13 @@ ghost use Rattle.hextext.specs.declared.error.ReadError.TheVariants.{NoMemory};
 
 use std::alloc::AllocFailed;
 
-// A place in a text. Lines end at line breaks and columns count bytes; both count from 1.
+// A place in a text. Lines end at line breaks and columns count bytes; both count from 1. `offset` is how many bytes
+// of the text stand before the place.
 #[derive(Clone, Copy, Debug, PartialEq, Eq)]
 pub struct Position {
     pub line: usize,
     pub column: usize,
+    pub offset: usize,
 }
 
 // Why a text could not be read.
@@ -20,6 +22,20 @@ pub enum ReadError {
     LoneDigit(Position),
     // There was no memory for the bytes.
     NoMemory,
+}
+
+impl ReadError {
+    ghost use Rattle.hextext.specs.Words.{place_of};
+
+    /// Where the text is at fault.
+    pub fn place(self) -> Option<Position>
+        ensures { result ≡ place_of self }
+    {
+        match self {
+            ReadError::BadDigit(at) | ReadError::LoneDigit(at) => Some(at),
+            ReadError::NoMemory => None,
+        }
+    }
 }
 
 impl<T: Drop> From<AllocFailed<T>> for ReadError {
