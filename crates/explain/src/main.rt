@@ -4,22 +4,24 @@
 mod advice;
 mod ending;
 mod lines;
+mod made;
 mod note;
 mod plan;
 mod quiet;
 mod state;
-mod story;
 mod teller;
 
 use anyhow::anyhow;
+use benchlog::Reader;
+use bus::Frame;
 use ending::{tell_fault, tell_states};
+use house::House;
 use input::{LIMIT, read_any};
 use kinds::bench_modules;
-use plan::PLAN;
-use runs::replay;
+use made::Made;
+use plan::{PLACES, PLAN};
 use std::collections::BTreeMap;
 use std::env;
-use story::Story;
 use teller::Teller;
 
 const HELP: &str = "\
@@ -58,18 +60,25 @@ fn explain(rt: &HostRuntime) -> anyhow::Result<()> {
             "explain: read {LIMIT} bytes, which is all that it takes; what follows was not read"
         )?;
     }
-    let story = Story::read(rt.alloc(), log.as_slice())?;
-    let done = replay(rt.alloc(), bench_modules(), story.calls.as_slice()).map_err(|_| anyhow!(
-        "there is no memory for the calls"
-    ))?;
+    let Ok(mut house) = House::new(rt.alloc(), bench_modules()) else {
+        return Err(anyhow!("there is no memory for a house"));
+    };
+    let modules = BTreeMap::from_array(rt.alloc(), PLAN)?;
+    let mut teller = Teller::new(rt.alloc(), BTreeMap::from_array(rt.alloc(), PLAN)?, false);
+    let mut buffer = [Frame::default(); PLACES];
     println!(rt; "{HEADING}")?;
-    let mut teller = Teller::new(rt.alloc(), BTreeMap::from_array(rt.alloc(), PLAN)?);
-    for (place, entry) in story.places.iter().zip(&done.entries) {
-        teller.tell(rt, *place, entry)?;
+    for found in Reader::new(log.as_slice()) {
+        match found {
+            Ok(item) => {
+                let made = Made::on(&mut house, &modules, &item, &mut buffer[..]);
+                teller.tell(rt, &made)?;
+            }
+            Err(fault) => {
+                teller.tell_quiet(rt)?;
+                tell_fault(rt, log.as_slice(), fault)?;
+            }
+        }
     }
     teller.tell_quiet(rt)?;
-    if let Some(fault) = story.fault {
-        tell_fault(rt, log.as_slice(), fault)?;
-    }
-    tell_states(rt, &done.house)
+    tell_states(rt, &house)
 }

@@ -1,7 +1,7 @@
 // Seconds one after the other in which nothing is sent, which are told in one line.
 use crate::lines::item;
+use crate::made::Made;
 use house::Call;
-use runs::Entry;
 use words::Span;
 
 // The places of the first and the last in the log, where each second is one byte.
@@ -33,6 +33,6 @@ impl Quiet {
 }
 
 // Whether it is a second that was served and in which nothing was sent.
-pub fn is_quiet(entry: &Entry) -> bool {
-    matches!(entry.call, Call::Second { .. }) && entry.answer.is_ok() && entry.sent.is_empty()
+pub fn is_quiet(made: &Made<'_>) -> bool {
+    matches!(made.call, Call::Second { .. }) && made.is_silent()
 }

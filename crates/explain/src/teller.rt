@@ -1,45 +1,55 @@
 // How the items of a log are told: what is done, and under it what comes of it.
 use crate::advice::Advice;
 use crate::lines::{FURTHER_IN, item, under};
+use crate::made::Made;
 use crate::note::Note;
 use crate::quiet::{Quiet, is_quiet};
 use bus::{Frame, Refusal};
 use house::Call;
-use runs::Entry;
 use std::alloc::Global;
 use std::collections::VecDeque;
 use terms::edge_name;
 use words::{CellLines, InWords, Modules, Named};
 
-// The modules by their addresses, the frames that wait, and the quiet seconds that are still to be told.
+// The modules by their addresses, the frames that wait, the quiet seconds that are still to be told, and whether steps at
+// which nothing is sent are left out.
 #[derive(Drop)]
 pub struct Teller {
     modules: Modules,
     waiting: VecDeque<Frame>,
     quiet: Option<Quiet>,
+    is_brief: bool,
 }
 
 impl Teller {
-    pub fn new(heap: Global, modules: Modules) -> Self {
+    pub fn new(heap: Global, modules: Modules, is_brief: bool) -> Self {
         Teller {
             modules,
             waiting: VecDeque::new(heap),
             quiet: None,
+            is_brief,
         }
     }
 
-    // Tells an item by its place and what was noted of its call.
-    pub fn tell(&mut self, rt: &HostRuntime, place: usize, entry: &Entry) -> anyhow::Result<()> {
-        if is_quiet(entry) {
-            self.quiet = Some(Quiet::and(self.quiet, place));
+    // Tells an item by the call that was made.
+    pub fn tell(&mut self, rt: &HostRuntime, made: &Made<'_>) -> anyhow::Result<()> {
+        if is_quiet(made) {
+            self.quiet = Some(Quiet::and(self.quiet, made.place));
             return Ok(());
         }
         self.tell_quiet(rt)?;
-        self.tell_call(rt, place, entry)?;
-        match entry.answer {
-            Ok(_) => self.tell_sent(rt, entry),
-            Err(refusal) => self.tell_refused(rt, entry.call, refusal),
+        if !self.is_left_out(made) {
+            self.tell_call(rt, made)?;
         }
+        match made.answer {
+            Ok(_) => self.tell_sent(rt, made),
+            Err(refusal) => self.tell_refused(rt, made.call, refusal),
+        }
+    }
+
+    // Whether it is a step that was served, at which nothing was sent, and such steps are left out.
+    fn is_left_out(&self, made: &Made<'_>) -> bool {
+        self.is_brief && matches!(made.call, Call::Step { .. }) && made.is_silent()
     }
 
     // Tells the quiet seconds that were not told yet.
@@ -51,12 +61,10 @@ impl Teller {
     }
 
     // The line of a call; for a step, with the frame that waited longest. What a written frame means stands under it.
-    fn tell_call(&self, rt: &HostRuntime, place: usize, entry: &Entry) -> anyhow::Result<()> {
-        let note = Note {
-            modules: &self.modules,
-            entry,
-        };
-        match entry.call {
+    fn tell_call(&self, rt: &HostRuntime, made: &Made<'_>) -> anyhow::Result<()> {
+        let place = made.place;
+        let note = Note(*made);
+        match made.call {
             Call::Put(frame) => {
                 let spoken = self.spoken(frame);
                 item(rt, place, "put", format_args!("{spoken}{note}"))?;
@@ -87,12 +95,12 @@ impl Teller {
     }
 
     // Each frame that was sent, and what the cells mean that it tells of.
-    fn tell_sent(&mut self, rt: &HostRuntime, entry: &Entry) -> anyhow::Result<()> {
+    fn tell_sent(&mut self, rt: &HostRuntime, made: &Made<'_>) -> anyhow::Result<()> {
         // a reply to a write repeats what was written
         let told = self
-            .pass(entry.call)?
+            .pass(made.call)?
             .is_some_and(|passing| passing.is_command(0xCA, 7));
-        for frame in &entry.sent {
+        for frame in made.sent {
             let spoken = self.spoken(*frame);
             under(rt, format_args!("sent  {spoken}"))?;
             if !told {
