@@ -7,6 +7,7 @@ use bus::Refusal;
 use house::House;
 use input::LIMIT;
 use kinds::BenchModules;
+use std::io;
 use terms::ModuleType;
 use words::Numbers;
 
@@ -16,13 +17,13 @@ pub fn is_cut_by_limit(log: &[u8], fault: Fault) -> bool {
 }
 
 // Tells why a log can be read no further.
-pub fn tell_fault(rt: &HostRuntime, log: &[u8], fault: Fault) -> anyhow::Result<()> {
+pub fn tell_fault(rt: &HostRuntime, log: &[u8], fault: Fault) -> io::Result<()> {
     let Fault { refusal, place } = fault;
     let Some((byte, after)) = log.get(place..).and_then(|rest| rest.split_first()) else {
         return Ok(());
     };
     if is_cut_by_limit(log, fault) {
-        let words = format_args!("the {LIMIT} bytes that are read at most end in this item");
+        let words = format_args!("cut by the limit: no more than {LIMIT} bytes are read");
         item(rt, place, "limit", words)?;
     } else {
         let number = refusal.number();
@@ -49,7 +50,7 @@ pub fn tell_fault(rt: &HostRuntime, log: &[u8], fault: Fault) -> anyhow::Result<
 }
 
 // Tells what state everything is in.
-pub fn tell_states(rt: &HostRuntime, house: &House<BenchModules>) -> anyhow::Result<()> {
+pub fn tell_states(rt: &HostRuntime, house: &House<BenchModules>) -> io::Result<()> {
     println!(rt; "\nAt the end:")?;
     let relay = State {
         house,
@@ -83,7 +84,7 @@ pub fn tell_states(rt: &HostRuntime, house: &House<BenchModules>) -> anyhow::Res
 }
 
 // The buttons of a module, and the lamps beside them.
-fn tell_buttons(rt: &HostRuntime, name: &str, state: State<'_>) -> anyhow::Result<()> {
+fn tell_buttons(rt: &HostRuntime, name: &str, state: State<'_>) -> io::Result<()> {
     let pressed = Numbers(state.pressed());
     let lamps = state.lamps();
     println!(rt; "{name:21}buttons pressed: {pressed}")?;

@@ -2,6 +2,7 @@
 use crate::lines::item;
 use crate::made::Made;
 use house::Call;
+use std::io;
 use words::Span;
 
 // The places of the first and the last in the log, where each second is one byte.
@@ -20,7 +21,7 @@ impl Quiet {
         }
     }
 
-    pub fn tell(self, rt: &HostRuntime) -> anyhow::Result<()> {
+    pub fn tell(self, rt: &HostRuntime) -> io::Result<()> {
         let Quiet { first, last } = self;
         if first == last {
             return item(rt, first, "second", "time passes: 1 s (nothing sent)");

@@ -106,7 +106,7 @@ impl fmt::Display for Locks<'_> {
             let lasting = LockTime(hold);
             let more = if hold == 0xFFFFFF { "" } else { " more" };
             write!(f, "{joint}{numbers} {lasting}{more}")?;
-            joint = ", ";
+            joint = "; ";
         }
         if joint.is_empty() {
             return f.write_str("none");

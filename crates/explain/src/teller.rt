@@ -8,6 +8,7 @@ use bus::{Frame, Refusal};
 use house::Call;
 use std::alloc::Global;
 use std::collections::VecDeque;
+use std::io;
 use terms::edge_name;
 use words::{CellLines, InWords, Modules, Named};
 
@@ -15,7 +16,7 @@ use words::{CellLines, InWords, Modules, Named};
 // which nothing is sent are left out.
 #[derive(Drop)]
 pub struct Teller {
-    modules: Modules,
+    pub modules: Modules,
     waiting: VecDeque<Frame>,
     quiet: Option<Quiet>,
     is_brief: bool,
@@ -32,7 +33,7 @@ impl Teller {
     }
 
     // Tells an item by the call that was made.
-    pub fn tell(&mut self, rt: &HostRuntime, made: &Made<'_>) -> anyhow::Result<()> {
+    pub fn tell(&mut self, rt: &HostRuntime, made: &Made<'_>) -> io::Result<()> {
         if is_quiet(made) {
             self.quiet = Some(Quiet::and(self.quiet, made.place));
             return Ok(());
@@ -53,7 +54,7 @@ impl Teller {
     }
 
     // Tells the quiet seconds that were not told yet.
-    pub fn tell_quiet(&mut self, rt: &HostRuntime) -> anyhow::Result<()> {
+    pub fn tell_quiet(&mut self, rt: &HostRuntime) -> io::Result<()> {
         match self.quiet.take() {
             Some(quiet) => quiet.tell(rt),
             None => Ok(()),
@@ -61,7 +62,7 @@ impl Teller {
     }
 
     // The line of a call; for a step, with the frame that waited longest. What a written frame means stands under it.
-    fn tell_call(&self, rt: &HostRuntime, made: &Made<'_>) -> anyhow::Result<()> {
+    fn tell_call(&self, rt: &HostRuntime, made: &Made<'_>) -> io::Result<()> {
         let place = made.place;
         let note = Note(*made);
         match made.call {
@@ -95,7 +96,7 @@ impl Teller {
     }
 
     // Each frame that was sent, and what the cells mean that it tells of.
-    fn tell_sent(&mut self, rt: &HostRuntime, made: &Made<'_>) -> anyhow::Result<()> {
+    fn tell_sent(&mut self, rt: &HostRuntime, made: &Made<'_>) -> io::Result<()> {
         // a reply to a write repeats what was written
         let told = self
             .pass(made.call)?
@@ -112,7 +113,7 @@ impl Teller {
     }
 
     // Lets a call that was served add frames to the waiting ones or take them; a step answers the one that passes.
-    fn pass(&mut self, call: Call) -> anyhow::Result<Option<Frame>> {
+    fn pass(&mut self, call: Call) -> io::Result<Option<Frame>> {
         match call {
             Call::Put(frame) => self.waiting.push_back(frame)?,
             Call::Step { .. } => return Ok(self.waiting.pop_front()),
@@ -122,7 +123,7 @@ impl Teller {
         Ok(None)
     }
 
-    fn tell_refused(&self, rt: &HostRuntime, call: Call, refusal: Refusal) -> anyhow::Result<()> {
+    fn tell_refused(&self, rt: &HostRuntime, call: Call, refusal: Refusal) -> io::Result<()> {
         let number = refusal.number();
         let advice = Advice {
             modules: &self.modules,
@@ -137,7 +138,7 @@ impl Teller {
     }
 
     // What the cells mean that a frame writes or tells of.
-    fn tell_cells(&self, rt: &HostRuntime, frame: &Frame) -> anyhow::Result<()> {
+    fn tell_cells(&self, rt: &HostRuntime, frame: &Frame) -> io::Result<()> {
         let cells = CellLines {
             modules: &self.modules,
             frame,
