@@ -4,9 +4,9 @@
 mod advice;
 mod ending;
 mod lines;
-mod made;
 mod note;
 mod options;
+mod outcome;
 mod plan;
 mod quiet;
 mod state;
@@ -19,8 +19,8 @@ use ending::{is_cut_by_limit, tell_fault, tell_states};
 use house::House;
 use input::{LIMIT, read_any};
 use kinds::bench_modules;
-use made::Made;
 use options::{Options, command};
+use outcome::Outcome;
 use plan::{PLACES, PLAN};
 use std::collections::BTreeMap;
 use std::process::ExitCode;
@@ -78,9 +78,9 @@ fn explain(rt: &HostRuntime, log: &[u8], is_brief: bool) -> cli::Result<bool> {
     for found in Reader::new(log) {
         match found {
             Ok(item) => {
-                let made = Made::on(&mut house, &teller.modules, &item, &mut buffer[..]);
-                teller.tell(rt, &made)?;
-                is_served &= made.answer.is_ok();
+                let outcome = Outcome::of(&mut house, &teller.modules, &item, &mut buffer[..]);
+                teller.tell(rt, &outcome)?;
+                is_served &= outcome.answer.is_ok();
             }
             Err(fault) => {
                 teller.tell_quiet(rt)?;

@@ -1,12 +1,12 @@
 // What is said of an answer in the line of its item.
-use crate::made::Made;
+use crate::outcome::Outcome;
 use crate::state::Button;
 use runs::Reply;
 use std::fmt;
 
 // Of a call and its answer; of a refusal, and of frames that were sent, lines of their own tell.
 #[derive(Clone, Copy)]
-pub struct Note<'a>(pub Made<'a>);
+pub struct Note<'a>(pub Outcome<'a>);
 
 impl fmt::Display for Note<'_> {
     fn fmt<W: fmt::Write>(&self, f: &mut fmt::Formatter<W>) -> fmt::Result {

@@ -1,6 +1,6 @@
 // Seconds one after the other in which nothing is sent, which are told in one line.
 use crate::lines::item;
-use crate::made::Made;
+use crate::outcome::Outcome;
 use house::Call;
 use std::io;
 use words::Span;
@@ -34,6 +34,6 @@ impl Quiet {
 }
 
 // Whether it is a second that was served and in which nothing was sent.
-pub fn is_quiet(made: &Made<'_>) -> bool {
-    matches!(made.call, Call::Second { .. }) && made.is_silent()
+pub fn is_quiet(outcome: &Outcome<'_>) -> bool {
+    matches!(outcome.call, Call::Second { .. }) && outcome.is_silent()
 }

@@ -1,8 +1,8 @@
 // How the items of a log are told: what is done, and under it what comes of it.
 use crate::advice::Advice;
 use crate::lines::{FURTHER_IN, item, under};
-use crate::made::Made;
 use crate::note::Note;
+use crate::outcome::Outcome;
 use crate::quiet::{Quiet, is_quiet};
 use bus::{Frame, Refusal};
 use house::Call;
@@ -32,25 +32,25 @@ impl Teller {
         }
     }
 
-    // Tells an item by the call that was made.
-    pub fn tell(&mut self, rt: &HostRuntime, made: &Made<'_>) -> io::Result<()> {
-        if is_quiet(made) {
-            self.quiet = Some(Quiet::and(self.quiet, made.place));
+    // Tells what comes of an item.
+    pub fn tell(&mut self, rt: &HostRuntime, outcome: &Outcome<'_>) -> io::Result<()> {
+        if is_quiet(outcome) {
+            self.quiet = Some(Quiet::and(self.quiet, outcome.place));
             return Ok(());
         }
         self.tell_quiet(rt)?;
-        if !self.is_left_out(made) {
-            self.tell_call(rt, made)?;
+        if !self.is_left_out(outcome) {
+            self.tell_call(rt, outcome)?;
         }
-        match made.answer {
-            Ok(_) => self.tell_sent(rt, made),
-            Err(refusal) => self.tell_refused(rt, made.call, refusal),
+        match outcome.answer {
+            Ok(_) => self.tell_sent(rt, outcome),
+            Err(refusal) => self.tell_refused(rt, outcome.call, refusal),
         }
     }
 
     // Whether it is a step that was served, at which nothing was sent, and such steps are left out.
-    fn is_left_out(&self, made: &Made<'_>) -> bool {
-        self.is_brief && matches!(made.call, Call::Step { .. }) && made.is_silent()
+    fn is_left_out(&self, outcome: &Outcome<'_>) -> bool {
+        self.is_brief && matches!(outcome.call, Call::Step { .. }) && outcome.is_silent()
     }
 
     // Tells the quiet seconds that were not told yet.
@@ -62,10 +62,10 @@ impl Teller {
     }
 
     // The line of a call; for a step, with the frame that waited longest. What a written frame means stands under it.
-    fn tell_call(&self, rt: &HostRuntime, made: &Made<'_>) -> io::Result<()> {
-        let place = made.place;
-        let note = Note(*made);
-        match made.call {
+    fn tell_call(&self, rt: &HostRuntime, outcome: &Outcome<'_>) -> io::Result<()> {
+        let place = outcome.place;
+        let note = Note(*outcome);
+        match outcome.call {
             Call::Put(frame) => {
                 let spoken = self.spoken(frame);
                 item(rt, place, "put", format_args!("{spoken}{note}"))?;
@@ -96,12 +96,12 @@ impl Teller {
     }
 
     // Each frame that was sent, and what the cells mean that it tells of.
-    fn tell_sent(&mut self, rt: &HostRuntime, made: &Made<'_>) -> io::Result<()> {
+    fn tell_sent(&mut self, rt: &HostRuntime, outcome: &Outcome<'_>) -> io::Result<()> {
         // a reply to a write repeats what was written
         let told = self
-            .pass(made.call)?
+            .pass(outcome.call)?
             .is_some_and(|passing| passing.is_command(0xCA, 7));
-        for frame in made.sent {
+        for frame in outcome.sent {
             let spoken = self.spoken(*frame);
             under(rt, format_args!("sent  {spoken}"))?;
             if !told {

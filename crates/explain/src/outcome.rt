@@ -1,4 +1,4 @@
-// Calls that were made.
+// What comes of an item.
 use crate::state::{Button, State};
 use benchlog::Item;
 use bus::{Frame, Refusal};
@@ -10,7 +10,7 @@ use words::Modules;
 // The call that an item of a log records, the place of the item, what was answered, and the frames that were sent. Of a
 // push it is also known how the button was before it.
 #[derive(Clone, Copy)]
-pub struct Made<'a> {
+pub struct Outcome<'a> {
     pub place: usize,
     pub call: Call,
     pub answer: Result<Reply, Refusal>,
@@ -18,9 +18,9 @@ pub struct Made<'a> {
     pub button: Option<Button>,
 }
 
-impl<'a> Made<'a> {
+impl<'a> Outcome<'a> {
     // Makes the call on a house. The frames sent stand in the buffer.
-    pub fn on(
+    pub fn of(
         house: &mut House<BenchModules>,
         modules: &Modules,
         item: &Item<'_>,
@@ -30,7 +30,7 @@ impl<'a> Made<'a> {
         let button = button_of(house, modules, call);
         let answer = perform(house, call, buffer);
         let number = number_sent(&answer);
-        Made {
+        Outcome {
             place: item.place(),
             call,
             answer,
