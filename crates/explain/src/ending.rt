@@ -3,46 +3,54 @@ use crate::lines::{item, under};
 use crate::plan::{INTERFACE, PANEL, RELAY};
 use crate::state::{ClockTime, Contacts, Locks, State};
 use benchlog::{Fault, ItemKind};
+use bus::Refusal;
 use house::House;
+use input::LIMIT;
 use kinds::BenchModules;
+use std::io;
 use terms::ModuleType;
 use words::Numbers;
 
+// Whether an item is cut short because no more is read of a log, and not because the log is damaged.
+pub fn is_cut_by_limit(log: &[u8], fault: Fault) -> bool {
+    log.len() == LIMIT && fault.refusal == Refusal::CutShort
+}
+
 // Tells why a log can be read no further.
-pub fn tell_fault(rt: &HostRuntime, log: &[u8], fault: Fault) -> anyhow::Result<()> {
+pub fn tell_fault(rt: &HostRuntime, log: &[u8], fault: Fault) -> io::Result<()> {
     let Fault { refusal, place } = fault;
-    let number = refusal.number();
     let Some((byte, after)) = log.get(place..).and_then(|rest| rest.split_first()) else {
         return Ok(());
     };
-    item(
-        rt,
-        place,
-        "fault",
-        format_args!("refused with {number}: {refusal}"),
-    )?;
+    if is_cut_by_limit(log, fault) {
+        let words = format_args!("cut by the limit: no more than {LIMIT} bytes are read");
+        item(rt, place, "limit", words)?;
+    } else {
+        let number = refusal.number();
+        let words = format_args!("refused with {number}: {refusal}");
+        item(rt, place, "fault", words)?;
+    }
     match ItemKind::try_from(*byte) {
         Ok(kind) => {
             let needed = kind.body_length();
             let there = after.len();
-            under(
-                rt,
-                format_args!(
-                    "after {byte:02X} there should be {needed} bytes, and there are {there}"
-                ),
-            )
+            let are = if there == 1 { "is" } else { "are" };
+            let words = format_args!(
+                "after {byte:02X} there should be {needed} bytes, and there {are} {there}"
+            );
+            under(rt, words)
         }
-        Err(_) => under(
-            rt,
-            format_args!(
+        Err(_) => {
+            let words = format_args!(
                 "items begin with 01 to 05, and here is {byte:02X}; the log is read no further"
-            ),
-        ),
+            );
+            under(rt, words)
+        }
     }
 }
 
 // Tells what state everything is in.
-pub fn tell_states(rt: &HostRuntime, house: &House<BenchModules>) -> anyhow::Result<()> {
+pub fn tell_states(rt: &HostRuntime, house: &House<BenchModules>) -> io::Result<()> {
     println!(rt; "\nAt the end:")?;
     let relay = State {
         house,
@@ -76,8 +84,8 @@ pub fn tell_states(rt: &HostRuntime, house: &House<BenchModules>) -> anyhow::Res
 }
 
 // The buttons of a module, and the lamps beside them.
-fn tell_buttons(rt: &HostRuntime, name: &str, state: State<'_>) -> anyhow::Result<()> {
-    let pressed = Numbers(state.byte(3));
+fn tell_buttons(rt: &HostRuntime, name: &str, state: State<'_>) -> io::Result<()> {
+    let pressed = Numbers(state.pressed());
     let lamps = state.lamps();
     println!(rt; "{name:21}buttons pressed: {pressed}")?;
     println!(rt; "                     lamps: {lamps}")?;

@@ -1,5 +1,5 @@
 // The lines of the output.
-use std::fmt;
+use std::{fmt, io};
 
 // A line for an item: its place in the log, what it is, and that in words.
 pub fn item<D: fmt::Display + Drop>(
@@ -7,7 +7,7 @@ pub fn item<D: fmt::Display + Drop>(
     place: usize,
     what: &str,
     words: D,
-) -> anyhow::Result<()> {
+) -> io::Result<()> {
     println!(rt; "{place:5}  {what:8}{words}")?;
     Ok(())
 }
@@ -16,7 +16,7 @@ pub fn item<D: fmt::Display + Drop>(
 pub const FURTHER_IN: &str = "                 ";
 
 // A line under that of an item.
-pub fn under<D: fmt::Display + Drop>(rt: &HostRuntime, words: D) -> anyhow::Result<()> {
+pub fn under<D: fmt::Display + Drop>(rt: &HostRuntime, words: D) -> io::Result<()> {
     println!(rt; "               {words}")?;
     Ok(())
 }

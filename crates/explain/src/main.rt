@@ -1,36 +1,30 @@
-// Explains a log: reads it from standard input, and tells in words what was done on the bus and what came of it.
+// Explains a log: tells in words what was done on the bus and what came of it.
 #![tactic(auto)]
 
 mod advice;
 mod ending;
 mod lines;
 mod note;
+mod options;
+mod outcome;
 mod plan;
 mod quiet;
 mod state;
-mod story;
 mod teller;
 
-use anyhow::anyhow;
-use ending::{tell_fault, tell_states};
+use benchlog::Reader;
+use bus::Frame;
+use cli::{Error, Source};
+use ending::{is_cut_by_limit, tell_fault, tell_states};
+use house::House;
 use input::{LIMIT, read_any};
 use kinds::bench_modules;
-use plan::PLAN;
-use runs::replay;
+use options::{Options, command};
+use outcome::Outcome;
+use plan::{PLACES, PLAN};
 use std::collections::BTreeMap;
-use std::env;
-use story::Story;
+use std::process::ExitCode;
 use teller::Teller;
-
-const HELP: &str = "\
-explain tells in words what a log says was done on the bus, what came of it, and what state everything is in at the end.
-
-  explain < LOG      takes bytes or hexadecimal digits, and sees which of them they are
-  explain help       this text
-
-On the bus are the modules that the program bench has. What the bytes of a log are is said by bench help and docs/LOG.md.
-Addresses and cells are told in hexadecimal, all other numbers in decimal. Channels, buttons and lamps count from 1; places
-in the log, tables, pairs and link records count from 0.";
 
 const HEADING: &str = "\
 On the bus: relay 10 (VMB4RY), button interface 20 (VMB8PBU), panel 30 (VMB4PD).
@@ -39,37 +33,63 @@ passes, and all modules hear it. Sent: a module sends a frame, which then waits 
 stands its place in the log.
 ";
 
-fn main(rt: HostRuntime) -> anyhow::Result<()> {
-    let mut arguments = env::args(&rt)?.skip(1);
-    let Some(word) = arguments.next() else {
-        return explain(&rt);
-    };
-    if word.as_str() != "help" || arguments.next().is_some() {
-        return Err(anyhow!("the argument can be help, or none; explain help says more"));
+fn main(rt: HostRuntime) -> ExitCode {
+    cli::end(&rt, "explain", run(&rt))
+}
+
+fn run(rt: &HostRuntime) -> cli::Result<()> {
+    let heap = rt.alloc();
+    let words = cli::words(rt)?;
+    let matches = cli::matches(heap, command(heap)?, words.as_slice())?;
+    let options = Options::of(&matches);
+    let log = read(rt, options.file)?;
+    let is_served = explain(rt, log.as_slice(), options.is_brief)?;
+    if options.is_strict && !is_served {
+        return Err(Error::Strict);
     }
-    println!(rt; "{HELP}")?;
     Ok(())
 }
 
-fn explain(rt: &HostRuntime) -> anyhow::Result<()> {
-    let log = read_any(rt.alloc(), rt.reader())?;
-    if log.len() == LIMIT {
-        eprintln!(rt;
-            "explain: read {LIMIT} bytes, which is all that it takes; what follows was not read"
-        )?;
-    }
-    let story = Story::read(rt.alloc(), log.as_slice())?;
-    let done = replay(rt.alloc(), bench_modules(), story.calls.as_slice()).map_err(|_| anyhow!(
-        "there is no memory for the calls"
+fn read(rt: &HostRuntime, file: Option<&str>) -> cli::Result<Vec<u8>> {
+    let heap = rt.alloc();
+    let source = Source::open(rt, file)?;
+    let name = source.name;
+    let log = read_any(heap, source).map_err(|error| Error::failed(
+        heap,
+        format_args!("{name}: {error}"),
     ))?;
+    if log.len() == LIMIT {
+        // the log is told also where this cannot be said
+        let _ = eprintln!(rt;
+            "explain: {LIMIT} bytes were read, the most that is read; more, if any follows, was not"
+        );
+    }
+    Ok(log)
+}
+
+// Tells a log, and answers whether each item was served and the log is not faulty.
+fn explain(rt: &HostRuntime, log: &[u8], is_brief: bool) -> cli::Result<bool> {
+    let mut house = House::new(rt.alloc(), bench_modules())?;
+    let modules = BTreeMap::from_array(rt.alloc(), PLAN)?;
+    let mut teller = Teller::new(rt.alloc(), modules, is_brief);
+    let mut buffer = [Frame::default(); PLACES];
+    let mut is_served = true;
     println!(rt; "{HEADING}")?;
-    let mut teller = Teller::new(rt.alloc(), BTreeMap::from_array(rt.alloc(), PLAN)?);
-    for (place, entry) in story.places.iter().zip(&done.entries) {
-        teller.tell(rt, *place, entry)?;
+    for found in Reader::new(log) {
+        match found {
+            Ok(item) => {
+                let outcome = Outcome::of(&mut house, &teller.modules, &item, &mut buffer[..]);
+                teller.tell(rt, &outcome)?;
+                is_served &= outcome.answer.is_ok();
+            }
+            Err(fault) => {
+                teller.tell_quiet(rt)?;
+                tell_fault(rt, log, fault)?;
+                is_served &= is_cut_by_limit(log, fault);
+            }
+        }
     }
     teller.tell_quiet(rt)?;
-    if let Some(fault) = story.fault {
-        tell_fault(rt, log.as_slice(), fault)?;
-    }
-    tell_states(rt, &done.house)
+    tell_states(rt, &house)?;
+    Ok(is_served)
 }

@@ -12,3 +12,6 @@ pub const PLAN: [(u8, ModuleType); 3] = [
     (INTERFACE, ModuleType::Buttons),
     (PANEL, ModuleType::Panel),
 ];
+
+// How many frames a call can send: nine for each module.
+pub const PLACES: usize = 27;

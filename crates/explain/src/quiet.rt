@@ -1,7 +1,8 @@
 // Seconds one after the other in which nothing is sent, which are told in one line.
 use crate::lines::item;
+use crate::outcome::Outcome;
 use house::Call;
-use runs::Entry;
+use std::io;
 use words::Span;
 
 // The places of the first and the last in the log, where each second is one byte.
@@ -20,7 +21,7 @@ impl Quiet {
         }
     }
 
-    pub fn tell(self, rt: &HostRuntime) -> anyhow::Result<()> {
+    pub fn tell(self, rt: &HostRuntime) -> io::Result<()> {
         let Quiet { first, last } = self;
         if first == last {
             return item(rt, first, "second", "time passes: 1 s (nothing sent)");
@@ -33,6 +34,6 @@ impl Quiet {
 }
 
 // Whether it is a second that was served and in which nothing was sent.
-pub fn is_quiet(entry: &Entry) -> bool {
-    matches!(entry.call, Call::Second { .. }) && entry.answer.is_ok() && entry.sent.is_empty()
+pub fn is_quiet(outcome: &Outcome<'_>) -> bool {
+    matches!(outcome.call, Call::Second { .. }) && outcome.is_silent()
 }

@@ -3,7 +3,15 @@ use house::House;
 use kinds::BenchModules;
 use std::fmt;
 use terms::ModuleType;
-use words::{Contact, Lamps, LockTime, Moment};
+use words::{Contact, Lamps, LockTime, Moment, Numbers};
+
+// How a button is: its channel is locked, or else the button is down or up.
+#[derive(Clone, Copy)]
+pub enum Button {
+    Locked,
+    Down,
+    Up,
+}
 
 // The state bytes of a module, as its record has them.
 #[derive(Clone, Copy)]
@@ -26,6 +34,31 @@ impl State<'_> {
         let mid = self.byte(at.saturating_add(1));
         let low = self.byte(at.saturating_add(2));
         u32::from_be_bytes([0, high, mid, low])
+    }
+
+    // How long a channel stays locked; channels count from 0 here, and only button interfaces have locks.
+    fn hold(&self, channel: u8) -> u32 {
+        match self.kind {
+            ModuleType::Buttons => self.time(4 + 3 * usize::from(channel)),
+            ModuleType::Relay | ModuleType::Panel => 0,
+        }
+    }
+
+    // Which buttons are down, a bit each.
+    pub fn pressed(&self) -> u8 {
+        self.byte(3)
+    }
+
+    // How a button is; buttons count from 0 here.
+    pub fn button(&self, channel: u8) -> Button {
+        let bit = 1u8.checked_shl(u32::from(channel)).unwrap_or(0);
+        if self.hold(channel) != 0 {
+            Button::Locked
+        } else if self.pressed() & bit != 0 {
+            Button::Down
+        } else {
+            Button::Up
+        }
     }
 
     // The lamps of a module with buttons.
@@ -56,28 +89,42 @@ impl fmt::Display for Contacts<'_> {
     }
 }
 
-// The locked channels of a button interface.
+// The locked channels of a button interface; those with the same time left stand together.
 #[derive(Clone, Copy)]
 pub struct Locks<'a>(pub State<'a>);
 
 impl fmt::Display for Locks<'_> {
     fn fmt<W: fmt::Write>(&self, f: &mut fmt::Formatter<W>) -> fmt::Result {
         let mut joint = "";
-        for channel in 0..8usize {
-            let hold = self.0.time(4 + 3 * channel);
-            let lasting = LockTime(hold);
-            let number = channel + 1;
-            match hold {
-                0 => continue,
-                0xFFFFFF => write!(f, "{joint}{number} {lasting}")?,
-                _ => write!(f, "{joint}{number} {lasting} more")?,
+        for channel in 0..8u8 {
+            let hold = self.0.hold(channel);
+            let alike = self.channels(hold);
+            if hold == 0 || alike.trailing_zeros() != u32::from(channel) {
+                continue;
             }
-            joint = ", ";
+            let numbers = Numbers(alike);
+            let lasting = LockTime(hold);
+            let more = if hold == 0xFFFFFF { "" } else { " more" };
+            write!(f, "{joint}{numbers} {lasting}{more}")?;
+            joint = "; ";
         }
         if joint.is_empty() {
             return f.write_str("none");
         }
         Ok(())
+    }
+}
+
+impl Locks<'_> {
+    // The channels that stay locked for just so long, a bit each.
+    fn channels(&self, hold: u32) -> u8 {
+        let mut bits = 0;
+        for channel in 0..8u8 {
+            if self.0.hold(channel) == hold {
+                bits |= 1 << channel;
+            }
+        }
+        bits
     }
 }
 

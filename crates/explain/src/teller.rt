@@ -2,48 +2,59 @@
 use crate::advice::Advice;
 use crate::lines::{FURTHER_IN, item, under};
 use crate::note::Note;
+use crate::outcome::Outcome;
 use crate::quiet::{Quiet, is_quiet};
 use bus::{Frame, Refusal};
 use house::Call;
-use runs::Entry;
 use std::alloc::Global;
 use std::collections::VecDeque;
+use std::io;
 use terms::edge_name;
 use words::{CellLines, InWords, Modules, Named};
 
-// The modules by their addresses, the frames that wait, and the quiet seconds that are still to be told.
+// The modules by their addresses, the frames that wait, the quiet seconds that are still to be told, and whether steps at
+// which nothing is sent are left out.
 #[derive(Drop)]
 pub struct Teller {
-    modules: Modules,
+    pub modules: Modules,
     waiting: VecDeque<Frame>,
     quiet: Option<Quiet>,
+    is_brief: bool,
 }
 
 impl Teller {
-    pub fn new(heap: Global, modules: Modules) -> Self {
+    pub fn new(heap: Global, modules: Modules, is_brief: bool) -> Self {
         Teller {
             modules,
             waiting: VecDeque::new(heap),
             quiet: None,
+            is_brief,
         }
     }
 
-    // Tells an item by its place and what was noted of its call.
-    pub fn tell(&mut self, rt: &HostRuntime, place: usize, entry: &Entry) -> anyhow::Result<()> {
-        if is_quiet(entry) {
-            self.quiet = Some(Quiet::and(self.quiet, place));
+    // Tells what comes of an item.
+    pub fn tell(&mut self, rt: &HostRuntime, outcome: &Outcome<'_>) -> io::Result<()> {
+        if is_quiet(outcome) {
+            self.quiet = Some(Quiet::and(self.quiet, outcome.place));
             return Ok(());
         }
         self.tell_quiet(rt)?;
-        self.tell_call(rt, place, entry)?;
-        match entry.answer {
-            Ok(_) => self.tell_sent(rt, entry),
-            Err(refusal) => self.tell_refused(rt, entry.call, refusal),
+        if !self.is_left_out(outcome) {
+            self.tell_call(rt, outcome)?;
+        }
+        match outcome.answer {
+            Ok(_) => self.tell_sent(rt, outcome),
+            Err(refusal) => self.tell_refused(rt, outcome.call, refusal),
         }
     }
 
+    // Whether it is a step that was served, at which nothing was sent, and such steps are left out.
+    fn is_left_out(&self, outcome: &Outcome<'_>) -> bool {
+        self.is_brief && matches!(outcome.call, Call::Step { .. }) && outcome.is_silent()
+    }
+
     // Tells the quiet seconds that were not told yet.
-    pub fn tell_quiet(&mut self, rt: &HostRuntime) -> anyhow::Result<()> {
+    pub fn tell_quiet(&mut self, rt: &HostRuntime) -> io::Result<()> {
         match self.quiet.take() {
             Some(quiet) => quiet.tell(rt),
             None => Ok(()),
@@ -51,12 +62,10 @@ impl Teller {
     }
 
     // The line of a call; for a step, with the frame that waited longest. What a written frame means stands under it.
-    fn tell_call(&self, rt: &HostRuntime, place: usize, entry: &Entry) -> anyhow::Result<()> {
-        let note = Note {
-            modules: &self.modules,
-            entry,
-        };
-        match entry.call {
+    fn tell_call(&self, rt: &HostRuntime, outcome: &Outcome<'_>) -> io::Result<()> {
+        let place = outcome.place;
+        let note = Note(*outcome);
+        match outcome.call {
             Call::Put(frame) => {
                 let spoken = self.spoken(frame);
                 item(rt, place, "put", format_args!("{spoken}{note}"))?;
@@ -87,12 +96,12 @@ impl Teller {
     }
 
     // Each frame that was sent, and what the cells mean that it tells of.
-    fn tell_sent(&mut self, rt: &HostRuntime, entry: &Entry) -> anyhow::Result<()> {
+    fn tell_sent(&mut self, rt: &HostRuntime, outcome: &Outcome<'_>) -> io::Result<()> {
         // a reply to a write repeats what was written
         let told = self
-            .pass(entry.call)?
+            .pass(outcome.call)?
             .is_some_and(|passing| passing.is_command(0xCA, 7));
-        for frame in &entry.sent {
+        for frame in outcome.sent {
             let spoken = self.spoken(*frame);
             under(rt, format_args!("sent  {spoken}"))?;
             if !told {
@@ -104,7 +113,7 @@ impl Teller {
     }
 
     // Lets a call that was served add frames to the waiting ones or take them; a step answers the one that passes.
-    fn pass(&mut self, call: Call) -> anyhow::Result<Option<Frame>> {
+    fn pass(&mut self, call: Call) -> io::Result<Option<Frame>> {
         match call {
             Call::Put(frame) => self.waiting.push_back(frame)?,
             Call::Step { .. } => return Ok(self.waiting.pop_front()),
@@ -114,7 +123,7 @@ impl Teller {
         Ok(None)
     }
 
-    fn tell_refused(&self, rt: &HostRuntime, call: Call, refusal: Refusal) -> anyhow::Result<()> {
+    fn tell_refused(&self, rt: &HostRuntime, call: Call, refusal: Refusal) -> io::Result<()> {
         let number = refusal.number();
         let advice = Advice {
             modules: &self.modules,
@@ -129,7 +138,7 @@ impl Teller {
     }
 
     // What the cells mean that a frame writes or tells of.
-    fn tell_cells(&self, rt: &HostRuntime, frame: &Frame) -> anyhow::Result<()> {
+    fn tell_cells(&self, rt: &HostRuntime, frame: &Frame) -> io::Result<()> {
         let cells = CellLines {
             modules: &self.modules,
             frame,

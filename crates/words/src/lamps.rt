@@ -3,7 +3,8 @@ use crate::numbers::{Numbers, Several};
 use bus::Frame;
 use std::fmt;
 
-// Eight lamps by their bits; one with both blinking bits blinks very fast.
+// Eight lamps by their bits; one with both blinking bits blinks very fast. One whose bits say that it is on and blinks is
+// told as what its bits say.
 #[derive(Clone, Copy)]
 pub struct Lamps {
     pub on: u8,
@@ -18,16 +19,18 @@ impl fmt::Display for Lamps {
         if lit == 0 {
             return f.write_str("all out");
         }
-        let groups = [
-            (on, "on"),
-            (slow & !fast, "blinking slowly"),
-            (fast & !slow, "blinking fast"),
-            (slow & fast, "blinking very fast"),
-        ];
-        for (bits, mode) in groups {
+        let both = on & (slow | fast);
+        for (bits, mode) in modes(on & !both, slow & !both, fast & !both) {
             if bits != 0 {
                 let numbers = Numbers(bits);
                 write!(f, "{numbers} {mode}; ")?;
+            }
+        }
+        for (bits, mode) in modes(0, slow & both, fast & both) {
+            if bits != 0 {
+                let numbers = Numbers(bits);
+                let whose = if bits.count_ones() == 1 { "its" } else { "their" };
+                write!(f, "{numbers} on and {mode} by {whose} bits; ")?;
             }
         }
         f.write_str(match lit {
@@ -35,6 +38,16 @@ impl fmt::Display for Lamps {
             _ => "others out",
         })
     }
+}
+
+// Which lamps are in which mode by these bits.
+fn modes(on: u8, slow: u8, fast: u8) -> [(u8, &'static str); 4] {
+    [
+        (on, "on"),
+        (slow & !fast, "blinking slowly"),
+        (fast & !slow, "blinking fast"),
+        (slow & fast, "blinking very fast"),
+    ]
 }
 
 pub(crate) fn is_lamps(frame: &Frame) -> bool {

@@ -56,16 +56,26 @@ impl fmt::Display for Asked {
             let name = action_name(action);
             write!(f, "action {action} ({name})")?;
         }
-        match (self.action, self.code) {
-            (Some(3 | 4), Some(code)) => {
-                f.write_str(" ")?;
-                time(code, f)
-            }
-            (None, Some(code)) => {
-                write!(f, "time code {code:02X}: ")?;
-                time(code, f)
-            }
-            (_, None) | (Some(_), Some(_)) => Ok(()),
+        match self.code {
+            Some(code) => self.time(code, f),
+            None => Ok(()),
+        }
+    }
+}
+
+impl Asked {
+    // The time of the code, unless the action is one that does not ask for it.
+    fn time<W: fmt::Write>(&self, code: u8, f: &mut fmt::Formatter<W>) -> fmt::Result {
+        let lasting = hold_of_code(code).map(LockTime);
+        let joint = if self.action.is_some() { ", " } else { "" };
+        match (self.action, lasting) {
+            (Some(3 | 4), Some(lasting)) => write!(f, " {lasting}"),
+            (None, Some(lasting)) => write!(f, "time code {code:02X}: {lasting}"),
+            (None | Some(3 | 4), None) => write!(
+                f,
+                "{joint}time code {code:02X} (no time: actions 3 and 4 do nothing with it)"
+            ),
+            (Some(_), _) => Ok(()),
         }
     }
 }
@@ -76,16 +86,5 @@ fn action_name(action: u8) -> &'static str {
         4 => "lock or free",
         5 => "free",
         _ => "does nothing",
-    }
-}
-
-// The time of a code.
-fn time<W: fmt::Write>(code: u8, f: &mut fmt::Formatter<W>) -> fmt::Result {
-    match hold_of_code(code) {
-        Some(hold) => {
-            let lasting = LockTime(hold);
-            write!(f, "{lasting}")
-        }
-        None => f.write_str("for no time, which does nothing"),
     }
 }
