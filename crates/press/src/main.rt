@@ -1,15 +1,17 @@
 // Shows how a button of a panel switches a relay, frame by frame.
 #![tactic(auto)]
 
+mod shown;
 mod told;
 
 use anyhow::anyhow;
-use bus::Frame;
+use bus::{Frame, Refusal};
 use house::House;
 use kinds::{new_panel, new_relay};
 use module::Seat;
 use panel::{Panel, PanelSetup};
 use relay::{PerChannel, Relay, RelaySetup, Timers};
+use shown::Shown;
 use station::{Edge, Rail, Sieve};
 use std::collections::BTreeMap;
 use terms::ModuleType;
@@ -20,6 +22,9 @@ use words::Numbers;
 const PANEL: u8 = 0x20;
 
 const RELAY: u8 = 0x10;
+
+// Room for what two seats send.
+const PLACES: usize = 18;
 
 // The panel stands before the relay, which is under a sieve.
 type Modules = Rail<Seat<Panel>, Sieve<Seat<Relay>>>;
@@ -54,13 +59,50 @@ fn run(rt: &HostRuntime) -> anyhow::Result<()> {
     let house = House::new(rt.alloc(), modules()).map_err(|_| anyhow!(
         "there is no memory for the house"
     ))?;
+    match Shown::by_arguments(rt)? {
+        Shown::Press => show_press(rt, house),
+        Shown::All => show_all(rt, house),
+    }
+}
+
+// The frame that links button 1 of the panel to channel 1 of the relay.
+fn link() -> Frame {
+    Frame::new(3, RELAY, 7, [0xCA, 0x00, 0x3C, PANEL, 0x01, 0xFF, 0xFF, 0])
+}
+
+// The house with its calls shown.
+fn traced(rt: &HostRuntime, house: House<Modules>) -> anyhow::Result<Trace<Modules>> {
     let kinds = [(PANEL, ModuleType::Panel), (RELAY, ModuleType::Relay)];
     let kinds = BTreeMap::from_array(rt.alloc(), kinds)?;
-    let mut trace = Trace::new(rt.alloc(), house, kinds);
+    Ok(Trace::new(rt.alloc(), house, kinds))
+}
+
+// One press and what comes of it; the link is written before.
+fn show_press(rt: &HostRuntime, mut house: House<Modules>) -> anyhow::Result<()> {
+    write_link(&mut house).map_err(|refusal| anyhow!("the link is refused: {refusal}"))?;
+    let mut trace = traced(rt, house)?;
+    println!(rt;
+        "A panel is at address 20, a relay at 10. Button 1 of the panel toggles channel 1 of the relay."
+    )?;
+    trace.push(rt, PANEL, 1, Edge::Press as u8)?;
+    trace.settle(rt)
+}
+
+// The frame that writes the link passes, and then the relay's answer.
+fn write_link(house: &mut House<Modules>) -> Result<(), Refusal> {
+    let mut sent = [Frame::default(); PLACES];
+    house.put(link())?;
+    house.step(&mut sent)?;
+    house.step(&mut sent)?;
+    Ok(())
+}
+
+// Two presses, and all else that this house is asked to do.
+fn show_all(rt: &HostRuntime, house: House<Modules>) -> anyhow::Result<()> {
+    let mut trace = traced(rt, house)?;
     println!(rt; "A panel at 20 and a relay at 10 stand on one bus.")?;
     println!(rt; "Button 1 of the panel goes into the toggle table of channel 1.")?;
-    let link = [0xCA, 0x00, 0x3C, PANEL, 0x01, 0xFF, 0xFF, 0];
-    trace.put(rt, Frame::new(3, RELAY, 7, link))?;
+    trace.put(rt, link())?;
     trace.settle(rt)?;
     press(rt, &mut trace)?;
     press(rt, &mut trace)?;
