@@ -1,0 +1,2 @@
+pub mod Statuses
+pub mod Sources
