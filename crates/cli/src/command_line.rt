@@ -31,7 +31,8 @@ pub fn words(rt: &HostRuntime) -> Result<Vec<String>>
 pub fn command<'a>(heap: Global, name: &'a str, about: &'a str) -> Result<Command<'a>>
     ensures err { IsOkUnless result NoMemory }
 {
-    let help = Command::new(heap, "help").about("Print help");
+    // `clap` knows the word where there are subcommands, and lists it
+    let help = Command::new(heap, "help").hide(true);
     let command = Command::new(heap, name)
         .about(about)
         .version(VERSION)
@@ -66,12 +67,22 @@ fn refused(heap: Global, error: &clap::Error) -> Error
     ensures status { (result ≡ NoMemory) ⊎ (status_of result ≡ status_of_kind (kind_of error.now)) }
     ensures memory { kind_of error.now ≡ OutOfMemory → result ≡ NoMemory }
 {
-    let Ok(text) = format!(in heap; "{error}") else {
+    let Ok(text) = error.to_string(heap) else {
         return Error::NoMemory;
     };
     match error.kind() {
         ErrorKind::OutOfMemory => Error::NoMemory,
         ErrorKind::DisplayHelp | ErrorKind::DisplayVersion => Error::Shown(text),
-        _ => Error::CommandLine(text),
+        _ => mistake(heap, text.as_str()),
+    }
+}
+
+// What is wrong with a command line; the name of the program will stand in front of it.
+fn mistake(heap: Global, text: &str) -> Error
+    ensures { (result ≡ NoMemory) ⊎ (status_of result ≡ 2) }
+{
+    match String::from_str(heap, text.strip_prefix("error: ").unwrap_or(text)) {
+        Ok(text) => Error::CommandLine(text),
+        Err(_) => Error::NoMemory,
     }
 }

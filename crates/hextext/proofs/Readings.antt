@@ -77,6 +77,7 @@ step-fits Comment at c next h = comment-fits (c == 10) next h
 pub record Reads (text : List ℕ) (i : ℕ) (items : List ℕ) (mode : Mode) (at : Position) : Type 0 where
   pub line : at.line ≤ i + 1
   pub column : at.column ≤ i + 1
+  pub offset : at.offset ≤ i
   pub fits : HighFits mode
   pub so_far : (rest : List ℕ) → meaning (take i text ++ rest) ≡ prepend items (reading mode at rest)
 
@@ -88,14 +89,21 @@ module _ (text : List ℕ) (i : ℕ) (items : List ℕ) (mode : Mode) (at : Posi
   line_after : (c : ℕ) → at.line ≤ i + 1 → (after at c).line ≤ i + 1 + 1
   line_after c h = by (c == 10)
     where
-      by : (t : Bool) → (let p : Position = cond t (record { line = at.line + 1; column = 1 }) (record { line = at.line; column = at.column + 1 }) in p.line ≤ i + 1 + 1)
+      by : (t : Bool) → (let p : Position = cond t (record { line = at.line + 1; column = 1; offset = at.offset + 1 }) (record { line = at.line; column = at.column + 1; offset = at.offset + 1 }) in p.line ≤ i + 1 + 1)
       by true = omega arith
       by false = omega arith
 
   column_after : (c : ℕ) → at.column ≤ i + 1 → (after at c).column ≤ i + 1 + 1
   column_after c h = by (c == 10)
     where
-      by : (t : Bool) → (let p : Position = cond t (record { line = at.line + 1; column = 1 }) (record { line = at.line; column = at.column + 1 }) in p.column ≤ i + 1 + 1)
+      by : (t : Bool) → (let p : Position = cond t (record { line = at.line + 1; column = 1; offset = at.offset + 1 }) (record { line = at.line; column = at.column + 1; offset = at.offset + 1 }) in p.column ≤ i + 1 + 1)
+      by true = omega arith
+      by false = omega arith
+
+  offset_after : (c : ℕ) → at.offset ≤ i → (after at c).offset ≤ i + 1
+  offset_after c h = by (c == 10)
+    where
+      by : (t : Bool) → (let p : Position = cond t (record { line = at.line + 1; column = 1; offset = at.offset + 1 }) (record { line = at.line; column = at.column + 1; offset = at.offset + 1 }) in p.offset ≤ i + 1)
       by true = omega arith
       by false = omega arith
 
@@ -115,6 +123,7 @@ module _ (text : List ℕ) (i : ℕ) (items : List ℕ) (mode : Mode) (at : Posi
       record {
         line = line_after (get_or text i 0) r.line;
         column = column_after (get_or text i 0) r.column;
+        offset = offset_after (get_or text i 0) r.offset;
         fits = step-fits mode at (get_or text i 0) next e;
         so_far = λ rest. ap meaning (front rest h) ∙ r.so_far (get_or text i 0 ∷ rest) ∙ ap (prepend items) (stepped (Ok (To next)) rest e);
       }
@@ -125,6 +134,7 @@ module _ (text : List ℕ) (i : ℕ) (items : List ℕ) (mode : Mode) (at : Posi
       record {
         line = line_after (get_or text i 0) r.line;
         column = column_after (get_or text i 0) r.column;
+        offset = offset_after (get_or text i 0) r.offset;
         fits = tt;
         so_far = λ rest. ap meaning (front rest h) ∙ r.so_far (get_or text i 0 ∷ rest) ∙ ap (prepend items) (stepped (Ok (Byte b)) rest e) ∙ prepend-before items b _;
       }

@@ -97,5 +97,5 @@ says_lines (bs ∷ lines) h =
 pub round_trip : RoundTrip
 unfolding reading
 round_trip lines h =
-    let all = says_lines lines h (record { line = 1; column = 1 }) [] in
-    ap (reading Between (record { line = 1; column = 1 })) (sym (append-nil (concat (map line_of lines)))) ∙ all.1 ∙ ap Ok (append-nil (concat lines))
+    let all = says_lines lines h (record { line = 1; column = 1; offset = 0 }) [] in
+    ap (reading Between (record { line = 1; column = 1; offset = 0 })) (sym (append-nil (concat (map line_of lines)))) ∙ all.1 ∙ ap Ok (append-nil (concat lines))

@@ -3,3 +3,4 @@ pub mod Reading
 pub mod Messages
 pub mod Lines
 pub mod RoundTrip
+pub mod Words

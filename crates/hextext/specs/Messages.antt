@@ -5,9 +5,9 @@ use Rattle.hextext.specs.declared.error.Position.{Position}
 use Rattle.hextext.specs.declared.error.ReadError.{ReadError}
 use Rattle.hextext.specs.declared.error.ReadError.TheVariants.{BadDigit, LoneDigit, NoMemory}
 
--- a place
+-- a place, as editors and compilers tell it
 abbrev pub place : Position → List ℕ
-place at = codes "line " ++ decimal at.line ++ codes ", column " ++ decimal at.column
+place at = decimal at.line ++ codes ":" ++ decimal at.column
 
 -- a fault, after its place
 abbrev pub message : ReadError → List ℕ

@@ -15,7 +15,9 @@ is_gap c = c == 32 || c == 9 || c == 13 || c == 10
 
 -- the place after c, which may be a line break
 abbrev pub after : Position → ℕ → Position
-after at c = if c == 10 then record { line = at.line + 1; column = 1 } else record { line = at.line; column = at.column + 1 }
+after at c =
+    if c == 10 then record { line = at.line + 1; column = 1; offset = at.offset + 1 }
+    else record { line = at.line; column = at.column + 1; offset = at.offset + 1 }
 
 -- a first digit, or none where one should be
 abbrev pub begun : Position → Option ℕ → Result Step ReadError
@@ -68,7 +70,7 @@ reading mode at (c ∷ rest) = followed (step mode at c) (λ next. reading next 
 
 -- what a whole text says
 abbrev pub meaning : List ℕ → Result (List ℕ) ReadError
-meaning text = reading Between (record { line = 1; column = 1 }) text
+meaning text = reading Between (record { line = 1; column = 1; offset = 0 }) text
 
 -- some first part of a text says a byte, which takes memory
 abbrev pub SaysAByte : List ℕ → Type 0

@@ -4,11 +4,13 @@ ghost use Rattle.hextext.specs.declared.error.ReadError.TheVariants.{NoMemory};
 
 use std::alloc::AllocFailed;
 
-// A place in a text. Lines end at line breaks and columns count bytes; both count from 1.
+// A place in a text. Lines end at line breaks and columns count bytes; both count from 1. `offset` is how many bytes
+// of the text stand before the place.
 #[derive(Clone, Copy, Debug, PartialEq, Eq)]
 pub struct Position {
     pub line: usize,
     pub column: usize,
+    pub offset: usize,
 }
 
 // Why a text could not be read.

@@ -7,9 +7,11 @@ mod hex_lines;
 mod messages;
 mod mode;
 mod reading;
+mod word;
 mod writing;
 
 pub use error::{Position, ReadError};
 pub use hex_lines::HexLines;
 pub use reading::read;
+pub use word::word_about;
 pub use writing::write_line;

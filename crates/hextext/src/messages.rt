@@ -10,8 +10,8 @@ impl fmt::Display for Position {
     ghost output = { λ at. Some (place at) };
 
     fn fmt<W: fmt::Write>(&self, f: &mut fmt::Formatter<W>) -> fmt::Result {
-        let Position { line, column } = *self;
-        write!(f, "line {line}, column {column}")
+        let Position { line, column, .. } = *self;
+        write!(f, "{line}:{column}")
     }
 }
 

@@ -18,7 +18,11 @@ pub fn read(heap: Global, text: &[u8]) -> Result<Vec<u8>, ReadError>
 {
     let mut bytes = Vec::new(heap);
     let mut mode = Mode::Between;
-    let mut at = Position { line: 1, column: 1 };
+    let mut at = Position {
+        line: 1,
+        column: 1,
+        offset: 0,
+    };
     for byte in text {
         mode = match step(mode, at, *byte)? {
             Step::To(next) => next,
@@ -39,17 +43,21 @@ pub fn read(heap: Global, text: &[u8]) -> Result<Vec<u8>, ReadError>
 fn after(at: Position, byte: u8) -> Position
     requires line { at.line < usize.MAX }
     requires column { at.column < usize.MAX }
+    requires offset { at.offset < usize.MAX }
     ensures { result ≡ after at byte }
 {
+    let offset = at.offset + 1;
     if byte == b'\n' {
         Position {
             line: at.line + 1,
             column: 1,
+            offset,
         }
     } else {
         Position {
             line: at.line,
             column: at.column + 1,
+            offset,
         }
     }
 }
@@ -101,7 +109,7 @@ fn within_comment(byte: u8) -> Step
 }
 
 // Whether a byte may stand between bytes.
-fn is_gap(byte: u8) -> bool
+pub(crate) fn is_gap(byte: u8) -> bool
     ensures { result ≡ is_gap byte }
 {
     matches!(byte, b' ' | b'\t' | b'\r' | b'\n')

@@ -6,6 +6,7 @@ use bus::{Frame, Refusal};
 use house::Call;
 use runs::Reply;
 use std::alloc::Global;
+use std::io;
 use terms::edge_name;
 use words::{HexAndWords, Modules};
 
@@ -46,7 +47,7 @@ impl Shown {
         call: Call,
         answer: Result<Reply, Refusal>,
         sent: &[Frame],
-    ) -> anyhow::Result<()>
+    ) -> io::Result<()>
         ensures modules { self.new.modules ≡ self.old.modules }
         ensures frames { OnOk result (self.new.frames.items ≡ self.old.frames.items ++ arrived call answer sent.now) }
         ensures passed { OnOk result (self.new.passed ≡ passed_by call answer (length self.old.frames.items) self.old.passed) }
@@ -56,7 +57,7 @@ impl Shown {
     }
 
     // The line of a call: for a step, with the frame that waited longest.
-    fn show_call(&self, rt: &HostRuntime, call: Call) -> anyhow::Result<()> {
+    fn show_call(&self, rt: &HostRuntime, call: Call) -> io::Result<()> {
         match call {
             Call::Put(frame) => return self.line(rt, "put", frame),
             Call::Push {
@@ -90,7 +91,7 @@ impl Shown {
         call: Call,
         answer: Result<Reply, Refusal>,
         sent: &[Frame],
-    ) -> anyhow::Result<()>
+    ) -> io::Result<()>
         ensures modules { self.new.modules ≡ self.old.modules }
         ensures frames { OnOk result (self.new.frames.items ≡ self.old.frames.items ++ arrived call answer sent.now) }
         ensures passed { OnOk result (self.new.passed ≡ passed_by call answer (length self.old.frames.items) self.old.passed) }
@@ -106,7 +107,7 @@ impl Shown {
     }
 
     // Each frame that was sent.
-    fn show_sent(&mut self, rt: &HostRuntime, sent: &[Frame]) -> anyhow::Result<()>
+    fn show_sent(&mut self, rt: &HostRuntime, sent: &[Frame]) -> io::Result<()>
         ensures modules { self.new.modules ≡ self.old.modules }
         ensures frames { OnOk result (self.new.frames.items ≡ self.old.frames.items ++ sent.now) }
         ensures passed { self.new.passed ≡ self.old.passed }
@@ -119,7 +120,7 @@ impl Shown {
     }
 
     // Which frames came onto the bus or passed by a call that was served.
-    fn note(&mut self, call: Call) -> anyhow::Result<()>
+    fn note(&mut self, call: Call) -> io::Result<()>
         ensures modules { self.new.modules ≡ self.old.modules }
         ensures frames { OnOk result (self.new.frames.items ≡ self.old.frames.items ++ frame_put call) }
         ensures passed { OnOk result (self.new.passed ≡ passed_after call (length self.old.frames.items) self.old.passed) }
@@ -134,7 +135,7 @@ impl Shown {
     }
 
     // A line with what happens to a frame, the frame, and the frame in words.
-    fn line(&self, rt: &HostRuntime, what: &str, frame: Frame) -> anyhow::Result<()> {
+    fn line(&self, rt: &HostRuntime, what: &str, frame: Frame) -> io::Result<()> {
         let told = HexAndWords {
             modules: &self.modules,
             frame,
@@ -145,14 +146,14 @@ impl Shown {
 }
 
 // Tells that a call was refused.
-fn refused(rt: &HostRuntime, refusal: Refusal) -> anyhow::Result<()> {
+fn refused(rt: &HostRuntime, refusal: Refusal) -> io::Result<()> {
     let number = refusal.number();
     println!(rt; "      refused with {number}: {refusal}")?;
     Ok(())
 }
 
 // Tells what a call answered.
-fn show_reply(rt: &HostRuntime, reply: Reply) -> anyhow::Result<()> {
+fn show_reply(rt: &HostRuntime, reply: Reply) -> io::Result<()> {
     match reply {
         Reply::Accepted => println!(rt; "      accepted")?,
         Reply::Counts { sent, pending } => println!(rt; "      {sent} sent, {pending} pending")?,

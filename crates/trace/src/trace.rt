@@ -12,6 +12,7 @@ use house::{Call, House};
 use runs::Reply;
 use station::Station;
 use std::alloc::Global;
+use std::io;
 use words::Modules;
 
 #[derive(Drop)]
@@ -48,7 +49,7 @@ impl<S: Station + Drop> Trace<S> {
     }
 
     // Puts a frame. A refusal is printed here, and not passed on; so below.
-    pub fn put(&mut self, rt: &HostRuntime, frame: Frame) -> anyhow::Result<()>
+    pub fn put(&mut self, rt: &HostRuntime, frame: Frame) -> io::Result<()>
         ensures { bus_of S.seats self.new.house ≡ called (Put frame) (bus_of S.seats self.old.house) }
     {
         let answer = self.house.put(frame).map(|()| Reply::Accepted);
@@ -62,7 +63,7 @@ impl<S: Station + Drop> Trace<S> {
         address: u8,
         channel: u8,
         edge: u8,
-    ) -> anyhow::Result<()>
+    ) -> io::Result<()>
         ensures { bus_of S.seats self.new.house ≡ called (Push address channel edge 144) (bus_of S.seats self.old.house) }
     {
         let mut buffer = [Frame::default(); PLACES];
@@ -78,7 +79,7 @@ impl<S: Station + Drop> Trace<S> {
     }
 
     // Lets a second pass.
-    pub fn second(&mut self, rt: &HostRuntime) -> anyhow::Result<()>
+    pub fn second(&mut self, rt: &HostRuntime) -> io::Result<()>
         ensures { bus_of S.seats self.new.house ≡ called (Second 144) (bus_of S.seats self.old.house) }
     {
         let mut buffer = [Frame::default(); PLACES];
@@ -89,7 +90,7 @@ impl<S: Station + Drop> Trace<S> {
 
     // Lets seconds pass, and says in one line how many. Before that line come the frames that a second sent, with the
     // number of the second; they pass before the next one.
-    pub fn pass(&mut self, rt: &HostRuntime, seconds: u32) -> anyhow::Result<()>
+    pub fn pass(&mut self, rt: &HostRuntime, seconds: u32) -> io::Result<()>
         ensures led { PassedAtMost seconds (bus_of S.seats self.old.house) (bus_of S.seats self.new.house) }
         ensures all { OnOk result (Passed seconds (bus_of S.seats self.old.house) (bus_of S.seats self.new.house)) }
     {
@@ -103,7 +104,7 @@ impl<S: Station + Drop> Trace<S> {
     }
 
     // Lets one of so many seconds pass, and then all frames; answers how many the second sent.
-    fn pass_one(&mut self, rt: &HostRuntime, n: u32, seconds: u32) -> anyhow::Result<usize>
+    fn pass_one(&mut self, rt: &HostRuntime, n: u32, seconds: u32) -> io::Result<usize>
         ensures { Stepped (called (Second 144) (bus_of S.seats self.old.house)) (bus_of S.seats self.new.house) }
     {
         let sent = self.nth_second(rt, n, seconds)?;
@@ -112,7 +113,7 @@ impl<S: Station + Drop> Trace<S> {
     }
 
     // Lets one of so many seconds pass; it is shown only where it sends something or is refused.
-    fn nth_second(&mut self, rt: &HostRuntime, n: u32, seconds: u32) -> anyhow::Result<usize>
+    fn nth_second(&mut self, rt: &HostRuntime, n: u32, seconds: u32) -> io::Result<usize>
         ensures { bus_of S.seats self.new.house ≡ called (Second 144) (bus_of S.seats self.old.house) }
     {
         let mut buffer = [Frame::default(); PLACES];
@@ -126,7 +127,7 @@ impl<S: Station + Drop> Trace<S> {
     }
 
     // Steps until no frame is pending, 256 times at most; the loop has no index.
-    pub fn settle(&mut self, rt: &HostRuntime) -> anyhow::Result<()>
+    pub fn settle(&mut self, rt: &HostRuntime) -> io::Result<()>
         ensures led { Stepped (bus_of S.seats self.old.house) (bus_of S.seats self.new.house) }
         ensures quiet { OnOk result ((length (pending_of self.new.house) ≡ 0) ⊎ (bus_of S.seats self.new.house ≡ steps 256 (bus_of S.seats self.old.house))) }
     {
@@ -140,7 +141,7 @@ impl<S: Station + Drop> Trace<S> {
     }
 
     // Takes the frame that waited longest and lets the seats hear it.
-    fn step(&mut self, rt: &HostRuntime) -> anyhow::Result<()>
+    fn step(&mut self, rt: &HostRuntime) -> io::Result<()>
         ensures { bus_of S.seats self.new.house ≡ called (Step 144) (bus_of S.seats self.old.house) }
     {
         let mut buffer = [Frame::default(); PLACES];
