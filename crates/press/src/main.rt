@@ -62,8 +62,9 @@ fn main(rt: HostRuntime) -> ExitCode {
 
 fn run(rt: &HostRuntime) -> cli::Result<()> {
     let words = cli::words(rt)?;
-    let all = Command::new(rt.alloc(), "all")
-        .about("Show two presses, what is refused, seconds that pass, and lamps that blink");
+    let all = Command::new(rt.alloc(), "all").about(
+        "Show two presses, what is refused, seconds that pass, and lamps that blink",
+    );
     let command = cli::command(rt.alloc(), NAME, ABOUT)?.subcommand(all)?;
     let matches = cli::matches(rt.alloc(), command, words.as_slice())?;
     let house = House::new(rt.alloc(), modules())?;
@@ -94,7 +95,7 @@ fn show_press(rt: &HostRuntime, mut house: House<Modules>) -> cli::Result<()> {
     println!(rt;
         "A panel is at address 20, a relay at 10. Button 1 of the panel toggles channel 1 of the relay."
     )?;
-    trace.push(rt, PANEL, 1, Edge::Press as u8)?;
+    push(rt, &mut trace, Edge::Press)?;
     trace.settle(rt)?;
     Ok(())
 }
@@ -120,14 +121,18 @@ fn show_all(rt: &HostRuntime, house: House<Modules>) -> io::Result<()> {
     run_out(rt, &mut trace)
 }
 
+fn push(rt: &HostRuntime, trace: &mut Trace<Modules>, edge: Edge) -> io::Result<()> {
+    trace.push(rt, PANEL, 1, edge as u8)
+}
+
 // Presses button 1, lets all frames pass, releases it, and asks.
 fn press(rt: &HostRuntime, trace: &mut Trace<Modules>) -> io::Result<()> {
     println!(rt; "Button 1 is pressed, and released too soon for the bench.")?;
-    trace.push(rt, PANEL, 1, Edge::Press as u8)?;
-    trace.push(rt, PANEL, 1, Edge::Release as u8)?;
+    push(rt, trace, Edge::Press)?;
+    push(rt, trace, Edge::Release)?;
     trace.settle(rt)?;
     println!(rt; "Button 1 is released.")?;
-    trace.push(rt, PANEL, 1, Edge::Release as u8)?;
+    push(rt, trace, Edge::Release)?;
     trace.settle(rt)?;
     ask(rt, trace)
 }
