@@ -3,23 +3,34 @@
 
 mod told;
 
-use anyhow::anyhow;
-use bus::Frame;
+use bus::{Frame, Refusal};
+use clap::Command;
+use cli::Error;
 use house::House;
 use kinds::{new_panel, new_relay};
 use module::Seat;
 use panel::{Panel, PanelSetup};
 use relay::{PerChannel, Relay, RelaySetup, Timers};
 use station::{Edge, Rail, Sieve};
+use std::alloc::{AllocError, Global};
 use std::collections::BTreeMap;
+use std::io;
+use std::process::ExitCode;
 use terms::ModuleType;
 use told::Told;
 use trace::Trace;
 use words::Numbers;
 
+const NAME: &str = "press";
+
+const ABOUT: &str = "Shows how a button of a panel switches a relay, frame by frame.";
+
 const PANEL: u8 = 0x20;
 
 const RELAY: u8 = 0x10;
+
+// Room for what two seats send.
+const PLACES: usize = 18;
 
 // The panel stands before the relay, which is under a sieve.
 type Modules = Rail<Seat<Panel>, Sieve<Seat<Relay>>>;
@@ -45,42 +56,89 @@ fn modules() -> Modules {
     }
 }
 
-fn main(rt: HostRuntime) -> anyhow::Result<()> {
-    run(&rt)
+fn main(rt: HostRuntime) -> ExitCode {
+    cli::end(&rt, NAME, run(&rt))
 }
 
-// What is seated, and as what it is shown, is the program's own.
-fn run(rt: &HostRuntime) -> anyhow::Result<()> {
-    let house = House::new(rt.alloc(), modules()).map_err(|_| anyhow!(
-        "there is no memory for the house"
-    ))?;
+fn run(rt: &HostRuntime) -> cli::Result<()> {
+    let words = cli::words(rt)?;
+    let all = Command::new(rt.alloc(), "all").about(
+        "Show two presses, what is refused, seconds that pass, and lamps that blink",
+    );
+    let command = cli::command(rt.alloc(), NAME, ABOUT)?.subcommand(all)?;
+    let matches = cli::matches(rt.alloc(), command, words.as_slice())?;
+    let house = House::new(rt.alloc(), modules())?;
+    if matches.subcommand_name() == Some("all") {
+        show_all(rt, house)?;
+    } else {
+        show_press(rt, house)?;
+    }
+    Ok(())
+}
+
+// The frame that links button 1 of the panel to channel 1 of the relay.
+fn link() -> Frame {
+    Frame::new(3, RELAY, 7, [0xCA, 0x00, 0x3C, PANEL, 0x01, 0xFF, 0xFF, 0])
+}
+
+// The house with its calls shown.
+fn traced(heap: Global, house: House<Modules>) -> Result<Trace<Modules>, AllocError> {
     let kinds = [(PANEL, ModuleType::Panel), (RELAY, ModuleType::Relay)];
-    let kinds = BTreeMap::from_array(rt.alloc(), kinds)?;
-    let mut trace = Trace::new(rt.alloc(), house, kinds);
+    let kinds = BTreeMap::from_array(heap, kinds)?;
+    Ok(Trace::new(heap, house, kinds))
+}
+
+// One press and what comes of it; the link is written before.
+fn show_press(rt: &HostRuntime, mut house: House<Modules>) -> cli::Result<()> {
+    write_link(&mut house).map_err(|refusal| Error::failed(rt.alloc(), refusal))?;
+    let mut trace = traced(rt.alloc(), house)?;
+    println!(rt;
+        "A panel is at address 20, a relay at 10. Button 1 of the panel toggles channel 1 of the relay."
+    )?;
+    push(rt, &mut trace, Edge::Press)?;
+    trace.settle(rt)?;
+    Ok(())
+}
+
+// The frame that writes the link passes, and then the relay's answer.
+fn write_link(house: &mut House<Modules>) -> Result<(), Refusal> {
+    let mut sent = [Frame::default(); PLACES];
+    house.put(link())?;
+    house.step(&mut sent)?;
+    house.step(&mut sent)?;
+    Ok(())
+}
+
+// Two presses, and all else that this house is asked to do.
+fn show_all(rt: &HostRuntime, house: House<Modules>) -> io::Result<()> {
+    let mut trace = traced(rt.alloc(), house)?;
     println!(rt; "A panel at 20 and a relay at 10 stand on one bus.")?;
     println!(rt; "Button 1 of the panel goes into the toggle table of channel 1.")?;
-    let link = [0xCA, 0x00, 0x3C, PANEL, 0x01, 0xFF, 0xFF, 0];
-    trace.put(rt, Frame::new(3, RELAY, 7, link))?;
+    trace.put(rt, link())?;
     trace.settle(rt)?;
     press(rt, &mut trace)?;
     press(rt, &mut trace)?;
     run_out(rt, &mut trace)
 }
 
+fn push(rt: &HostRuntime, trace: &mut Trace<Modules>, edge: Edge) -> io::Result<()> {
+    trace.push(rt, PANEL, 1, edge as u8)
+}
+
 // Presses button 1, lets all frames pass, releases it, and asks.
-fn press(rt: &HostRuntime, trace: &mut Trace<Modules>) -> anyhow::Result<()> {
+fn press(rt: &HostRuntime, trace: &mut Trace<Modules>) -> io::Result<()> {
     println!(rt; "Button 1 is pressed, and released too soon for the bench.")?;
-    trace.push(rt, PANEL, 1, Edge::Press as u8)?;
-    trace.push(rt, PANEL, 1, Edge::Release as u8)?;
+    push(rt, trace, Edge::Press)?;
+    push(rt, trace, Edge::Release)?;
     trace.settle(rt)?;
     println!(rt; "Button 1 is released.")?;
-    trace.push(rt, PANEL, 1, Edge::Release as u8)?;
+    push(rt, trace, Edge::Release)?;
     trace.settle(rt)?;
     ask(rt, trace)
 }
 
 // Asks what is closed and what shines.
-fn ask(rt: &HostRuntime, trace: &mut Trace<Modules>) -> anyhow::Result<()> {
+fn ask(rt: &HostRuntime, trace: &mut Trace<Modules>) -> io::Result<()> {
     println!(rt; "The modules are asked for their status.")?;
     command(rt, trace, RELAY, [0xFA, 0x0F, 0, 0, 0, 0, 0, 0])?;
     command(rt, trace, PANEL, [0xFA, 0xFF, 0, 0, 0, 0, 0, 0])?;
@@ -93,13 +151,13 @@ fn command(
     trace: &mut Trace<Modules>,
     address: u8,
     bytes: [u8; 8],
-) -> anyhow::Result<()> {
+) -> io::Result<()> {
     trace.put(rt, Frame::new(3, address, 2, bytes))?;
     trace.settle(rt)
 }
 
 // Has channel 2 run for 2 seconds and two lamps blink. The first second comes too soon.
-fn run_out(rt: &HostRuntime, trace: &mut Trace<Modules>) -> anyhow::Result<()> {
+fn run_out(rt: &HostRuntime, trace: &mut Trace<Modules>) -> io::Result<()> {
     println!(rt;
         "Channel 2 is to be closed for 2 seconds. A second that comes too soon is refused; one passes."
     )?;
@@ -116,7 +174,7 @@ fn run_out(rt: &HostRuntime, trace: &mut Trace<Modules>) -> anyhow::Result<()> {
 }
 
 // Says which contacts are closed and which lamps shine.
-fn sum_up(rt: &HostRuntime, told: &Told) -> anyhow::Result<()> {
+fn sum_up(rt: &HostRuntime, told: &Told) -> io::Result<()> {
     let closed = Numbers(told.contacts);
     let lamps_on = Numbers(told.lamps_on);
     println!(rt; "Contacts closed: {closed}. Lamps shining: {lamps_on}.")?;
