@@ -72,10 +72,8 @@ pub fn bench_modules() -> BenchModules
 }
 
 // The cells that `terms` counts in a module are those of its kind.
-pub fn cells_are_of_the_kinds() -> u8
+pub fn cells_are_of_the_kinds()
     ensures relay { EveryRelay (λ k. k.memory ≡ cells_of ModuleType.Relay) }
     ensures panel { EveryPanel (λ k. k.memory ≡ cells_of ModuleType.Panel) }
     ensures buttons { EveryButtonInterface (λ k. k.memory ≡ cells_of ModuleType.Buttons) }
-{
-    0
-}
+{}
