@@ -1,5 +1,5 @@
 -- How a run of a log goes on. Assumes nothing.
-use Rattle.std.proofs.Common.{◌≡◌, ℕ, List, [], ◌∷◌, ◌++◌, length, take, drop, Some, None, Option, Ok, Err, sym, ap, subst, ◌∙◌}
+use Rattle.std.proofs.Common.{◌≡◌, ℕ, List, [], ◌∷◌, ◌++◌, length, take, drop, Some, None, Option, Ok, Err, sym, ap, ◌∙◌}
 use Rattle.std.specs.List.{flat_map}
 use Rattle.std.specs.Io.KnownBytes.{Appends}
 use Rattle.std.proofs.lemmas.List.{append_assoc, append-nil, map-append}
@@ -43,10 +43,6 @@ ran_more fs (Err g) x y bytes e r =
 -- the front of a buffer that bytes were copied in
 pub front : (bytes old : List ℕ) (n : ℕ) (new : List ℕ) → n ≡ length bytes → new ≡ copied_in bytes old → take n new ≡ bytes
 front bytes old n new e f = ap (take n) f ∙ ap (λ m. take m (copied_in bytes old)) e ∙ take-append_seam bytes (drop (length bytes) old)
-
--- what was run so far are the first that a log tells
-pub first_ran : (all ps rest : List Found) (x y : Bus) (bytes : List ℕ) → all ≡ ps ++ rest → RanItems ps x y bytes → RanItems (take (length ps) all) x y bytes
-first_ran all ps rest x y bytes e r = subst (λ fs. RanItems fs x y bytes) (sym (ap (take (length ps)) e ∙ take-append_seam ps rest)) r
 
 -- what was written first, and then the rest
 pub appended : (a b c : Option (List ℕ)) (bs cs : List ℕ) → Appends a b bs → Appends b c cs → Appends a c (bs ++ cs)

@@ -1,9 +1,13 @@
 -- What is answered to a call that was served. Assumes nothing.
-use Rattle.std.proofs.Common.{◌≡◌, ℕ, List, take, Ok, Result, refl, sym, ap, ◌∙◌}
+use Rattle.std.specs.Prelude.{if◌then◌else◌}
+use Rattle.std.proofs.Common.{◌≡◌, ℕ, arith, Bool, true, false, nat_lt, List, [], ◌∷◌, ◌++◌, take, Ok, Result, refl, sym, ap, ◌∙◌}
 use Rattle.bus.specs.declared.frame.Frame.{Frame}
 use Rattle.bus.specs.declared.refusal.Refusal.{Refusal}
+use Rattle.bus.specs.declared.refusal.Refusal.TheVariants.{ShortBuffer}
+use Rattle.station.specs.Kinds.{Seat}
+use Rattle.house.specs.Faults.{builder}
 use Rattle.house.specs.declared.call.Call.{Call}
-use Rattle.house.specs.Turns.{Bus, turn, decided, with_places, copied_in}
+use Rattle.house.specs.Turns.{Bus, turn, decided, with_places, copied_in, Rises}
 use Rattle.runs.specs.declared.entry.Reply.{Reply}
 use Rattle.runs.specs.declared.entry.Reply.TheVariants.{Accepted, Counts, Cleared, Byte}
 use Rattle.runs.specs.Replays.{answer_of, shown_reply}
@@ -13,7 +17,7 @@ use Rattle.benchlog.specs.declared.kind.ItemKind.{ItemKind}
 use Rattle.benchlog.specs.declared.kind.ItemKind.TheVariants.{Put, Second, Push, Step, Clear}
 use Rattle.benchlog.specs.Items.{LogItem, bench_places, call_of, recorded}
 use Rattle.benchlog.specs.Bytes.{answer_bytes, served_bytes}
-use Rattle.benchlog.specs.Benches.{item_bytes, RefusedItems}
+use Rattle.benchlog.specs.Benches.{item_bytes, RefusedItems, AnswerNumbersRise}
 
 reply_bytes : (r : Reply) (fs : List Frame) → answer_bytes (answer_of r) fs ≡ served_bytes fs
 reply_bytes Accepted fs = refl
@@ -47,3 +51,11 @@ pub refused_items : RefusedItems
 refused_items x i r e =
     let c = recorded i in
     (ap (λ o. record { seats = (decided o x.seats x.pending c).seats; pending = (decided o x.seats x.pending c).pending }) e, ap (λ o. answer_bytes (decided o x.seats x.pending c).answer (decided o x.seats x.pending c).sent) e)
+
+-- the numbers that refuse a buffer
+rise_if : (ss : List Seat) (b : Bool) → Rises (if b then builder ss ++ (true, ShortBuffer) ∷ [] else [])
+rise_if ss true = search arith
+rise_if ss false = tt
+
+pub answer_numbers_rise : AnswerNumbersRise
+answer_numbers_rise ss places = rise_if ss (nat_lt places 360)

@@ -1,5 +1,5 @@
 -- What a bench does with an item and with a log. Assumes nothing.
-use Rattle.std.specs.Prelude.{◌≡◌, ℕ, ◌≤◌, ◌<◌, List, ◌++◌, [], ◌∷◌, map, length, Some, Option, Ok, Err, Result, MatchResult}
+use Rattle.std.specs.Prelude.{◌≡◌, ℕ, true, if◌then◌else◌, nat_lt, List, ◌++◌, [], ◌∷◌, map, length, Some, None, Option, Ok, Err, Result, MatchResult}
 use Rattle.std.specs.List.{flat_map}
 use Rattle.std.specs.Io.KnownBytes.{Appends}
 use Rattle.bus.specs.declared.refusal.Refusal.{Refusal}
@@ -8,9 +8,9 @@ use Rattle.bus.specs.Refusals.{number}
 use Rattle.station.specs.Kinds.{Seat}
 use Rattle.station.specs.declared.station.Station.{Ghosts}
 use Rattle.house.specs.declared.call.Call.{Call}
-use Rattle.house.specs.Faults.{first_refusal}
+use Rattle.house.specs.Faults.{Checks, first_refusal, builder}
 use Rattle.house.specs.Houses.{bus_of}
-use Rattle.house.specs.Turns.{Bus, called, checks, copied_in}
+use Rattle.house.specs.Turns.{Bus, called, checks, copied_in, Rises}
 use Rattle.runs.specs.Runs.{Entry, entry, Run}
 use Rattle.benchlog.specs.declared.bench.Bench.{Bench}
 use Rattle.benchlog.specs.Items.{LogItem, Found, recorded}
@@ -30,6 +30,19 @@ abbrev pub RefusedItems : Type 0
 RefusedItems =
     (x : Bus) (i : LogItem) (r : Refusal) → first_refusal (checks x.seats x.pending (recorded i)) ≡ Some r →
     (called (recorded i) x ≡ x) × (item_bytes x i ≡ 0x82 ∷ number r ∷ [])
+
+-- what refuses a buffer for an answer, in order: one with fewer than 360 places is too short, and what the builder got wrong
+-- comes before that; for a longer one the answer to the item tells what the builder got wrong
+abbrev pub answer_checks : List Seat → ℕ → Checks
+answer_checks ss places = if nat_lt places 360 then builder ss ++ (true, ShortBuffer) ∷ [] else []
+
+-- the refusal, if there is one
+abbrev pub answer_refusal : List Seat → ℕ → Option Refusal
+answer_refusal ss places = first_refusal (answer_checks ss places)
+
+-- the numbers are looked at from the smallest up
+abbrev pub AnswerNumbersRise : Type 0
+AnswerNumbersRise = (ss : List Seat) (places : ℕ) → Rises (answer_checks ss places)
 
 -- the bus after what was found in a log: an item's call was made, and a fault does nothing
 abbrev pub after_found : Found → Bus → Bus
@@ -64,13 +77,13 @@ module _ {S : Type 0} {G : Ghosts S} where
   abbrev pub bench_bus : (S → List Seat) → Bench S G → Bus
   bench_bus seats b = bus_of seats b.house
 
-  -- an item was answered at the front of a buffer, by so many bytes; or the buffer was too short, and nothing happened
+  -- an item was answered at the front of a buffer, by so many bytes; or the buffer was refused, and nothing happened
   abbrev pub AnswersItem : (S → List Seat) → LogItem → Result ℕ Refusal → Bench S G → Bench S G → List ℕ → List ℕ → Type 0
   AnswersItem seats i r before after old new =
       let x = bench_bus seats before in
       MatchResult r
-      (λ n. (360 ≤ length old) × (bench_bus seats after ≡ called (recorded i) x) × (n ≡ length (item_bytes x i)) × (new ≡ copied_in (item_bytes x i) old))
-      (λ e. (length old < 360) × (e ≡ ShortBuffer) × (after ≡ before) × (new ≡ old))
+      (λ n. (answer_refusal x.seats (length old) ≡ None) × (bench_bus seats after ≡ called (recorded i) x) × (n ≡ length (item_bytes x i)) × (new ≡ copied_in (item_bytes x i) old))
+      (λ e. (answer_refusal x.seats (length old) ≡ Some e) × (after ≡ before) × (new ≡ old))
 
   -- a log was run, and the answers were appended to what was written, where that is known
   abbrev pub RanLog : (S → List Seat) → List ℕ → Bench S G → Bench S G → Option (List ℕ) → Option (List ℕ) → Type 0

@@ -5,15 +5,23 @@ use Rattle.bus.specs.declared.refusal.Refusal.{Refusal}
 use Rattle.bus.specs.declared.refusal.Refusal.TheVariants.{ShortBuffer, IllFormedFrame}
 use Rattle.bus.specs.Frames.{well_formed}
 use Rattle.house.specs.declared.call.Call.TheVariants.{Put as PutCall}
-use Rattle.house.specs.Faults.{first_refusal}
-use Rattle.house.specs.Turns.{copied_in}
+use Rattle.house.specs.Faults.{Checks, first_refusal}
+use Rattle.house.specs.Turns.{copied_in, Rises}
 use Rattle.benchlog.specs.Items.{LogItem, recorded}
 use Rattle.benchlog.specs.Reading.{reading}
 use Rattle.benchlog.specs.Bytes.{put_item}
 
--- what refuses to write the frame to a buffer of that length
+-- what refuses to write the frame to a buffer of that length, in order
+abbrev pub put_item_checks : Frame → ℕ → Checks
+put_item_checks f n = (nat_lt n 13, ShortBuffer) ∷ (not (well_formed f), IllFormedFrame) ∷ []
+
+-- the refusal, if there is one
 abbrev pub put_item_refusal : Frame → ℕ → Option Refusal
-put_item_refusal f n = first_refusal ((nat_lt n 13, ShortBuffer) ∷ (not (well_formed f), IllFormedFrame) ∷ [])
+put_item_refusal f n = first_refusal (put_item_checks f n)
+
+-- the numbers are looked at from the smallest up
+abbrev pub PutItemNumbersRise : Type 0
+PutItemNumbersRise = (f : Frame) (n : ℕ) → Rises (put_item_checks f n)
 
 -- the item is written to the buffer's front, unless something refuses it: then the buffer is as it was
 abbrev pub WritesItem : Frame → Result (Unit {0}) Refusal → List ℕ → List ℕ → Type 0

@@ -1,13 +1,14 @@
 // How a bench answers an item.
 ghost use Rattle.std.specs.Prelude.{◌≡◌, ◌+◌, ◌*◌, ◌≤◌, [], ◌∷◌, length, IfOk, IfErr};
-ghost use Rattle.bus.specs.Refusals.{number};
+ghost use Rattle.bus.specs.Refusals.{number, refusal_number};
 ghost use Rattle.station.specs.Seats.{first_byte};
+ghost use Rattle.house.specs.Faults.{first_number, OkUnless};
 ghost use Rattle.house.specs.Houses.{station_of};
 ghost use Rattle.house.specs.Turns.{called, copied_in};
 ghost use Rattle.runs.specs.Runs.{quiet};
 ghost use Rattle.benchlog.specs.Items.{shown_item, recorded};
 ghost use Rattle.benchlog.specs.Bytes.{served_bytes};
-ghost use Rattle.benchlog.specs.Benches.{bench_bus, item_bytes, AnswersItem, RefusedItems};
+ghost use Rattle.benchlog.specs.Benches.{bench_bus, item_bytes, answer_checks, answer_refusal, AnswerNumbersRise, AnswersItem, RefusedItems};
 
 use crate::bench::Bench;
 use crate::item::Item;
@@ -72,17 +73,32 @@ impl<S: Station> Bench<S> {
         }
     }
 
-    // Answers an item at the front of a buffer with 360 places or more, and says by how many bytes: the frames sent, each
-    // after 0x81, and then 0x80, or 0x82 and the number of a refusal.
-    #[tactic(auto, using(crate::proofs::Served::refused_items))]
+    /// Answers an item at the front of a buffer with 360 places or more, and says by how many bytes: the frames sent, each
+    /// after 0x81, and then 0x80, or 0x82 and the number of a refusal.
+    ///
+    /// # Errors
+    ///
+    /// Of a shorter buffer: the builder's fault (1, 2 or 3) if the house has one, else 4. Nothing happens then.
+    #[tactic(auto, using(crate::proofs::Served::refused_items, crate::proofs::Served::answer_numbers_rise))]
     pub fn answer(&mut self, item: &Item<'_>, buffer: &mut [u8]) -> Result<usize, Refusal>
         ensures refusals { RefusedItems }
+        ensures number { refusal_number result ≡ first_number (answer_checks (bench_bus S.seats self.old).seats (length buffer.old)) }
+        ensures rises { AnswerNumbersRise }
         ensures answer { AnswersItem S.seats (shown_item item.now) result self.old self.new buffer.old buffer.new }
     {
-        if buffer.len() < 360 {
+        self.check_answer(buffer.len())?;
+        Ok(self.write_answer(item, buffer))
+    }
+
+    // Refuses a buffer with fewer than 360 places.
+    fn check_answer(&self, places: usize) -> Result<(), Refusal>
+        ensures { OkUnless result (answer_refusal (bench_bus S.seats self.now).seats places) tt }
+    {
+        if places < 360 {
+            self.house.seats()?;
             return Err(Refusal::ShortBuffer);
         }
-        Ok(self.write_answer(item, buffer))
+        Ok(())
     }
 
     // The byte at a place of the record of the first seat at an address, if there is one.

@@ -15,7 +15,7 @@ use crate::reader::Reader;
 use bus::Refusal;
 
 impl<'a> Reader<'a> {
-    // At the start of the log.
+    /// A reader at the start of a log: it hands out the items of the log in order, and at most one fault, as the last.
     #[tactic(auto, using(crate::proofs::Passing::told_ends))]
     pub fn new(log: &'a [u8]) -> Self
         ensures all { left result ≡ told log.now }
