@@ -1,6 +1,6 @@
 // Logs of all lengths about the limit, and which form is read.
 use crate::text_cases::same;
-use input::{Form, read_any, read_log};
+use input::{Form, LogError, read_any, read_log};
 use std::test::Fail;
 
 #[test]
@@ -25,7 +25,7 @@ fn limit(rt: HostRuntime) -> Result<(), Fail> {
     Ok(())
 }
 
-fn length(log: anyhow::Result<Vec<u8>>) -> Result<usize, Fail> {
+fn length(log: Result<Vec<u8>, LogError>) -> Result<usize, Fail> {
     match log {
         Ok(log) => Ok(log.len()),
         Err(_) => Err(Fail::new("unread")),
