@@ -54,10 +54,7 @@ fn read(rt: &HostRuntime, file: Option<&str>) -> cli::Result<Vec<u8>> {
     let heap = rt.alloc();
     let source = Source::open(rt, file)?;
     let name = source.name;
-    let log = read_any(heap, source).map_err(|error| Error::failed(
-        heap,
-        format_args!("{name}: {error}"),
-    ))?;
+    let log = read_any(heap, source).map_err(|error| error.named(heap, name))?;
     if log.len() == LIMIT {
         // the log is told also where this cannot be said
         let _ = eprintln!(rt;
