@@ -58,7 +58,7 @@ fn read(rt: &HostRuntime, file: Option<&str>) -> cli::Result<Vec<u8>> {
     if log.len() == LIMIT {
         // the log is told also where this cannot be said
         let _ = eprintln!(rt;
-            "explain: {LIMIT} bytes were read, the most that is read; more, if any follows, was not"
+            "explain: read {LIMIT} bytes of the log, the most that is read; more, if any follows, was not read"
         );
     }
     Ok(log)
