@@ -23,6 +23,7 @@ use options::{Options, command};
 use outcome::Outcome;
 use plan::{PLACES, PLAN};
 use std::collections::BTreeMap;
+use std::io;
 use std::process::ExitCode;
 use teller::Teller;
 
@@ -30,8 +31,9 @@ const HEADING: &str = "\
 On the bus: relay 10 (VMB4RY), button interface 20 (VMB8PBU), panel 30 (VMB4PD).
 A frame is a message on the bus. Put: a tool's frame joins those that wait. Step: the frame that waited longest
 passes, and all modules hear it. Sent: a module sends a frame, which then waits too. In front of each item
-stands its place in the log.
-";
+stands its place in the log.";
+
+const BRIEFLY: &str = "Steps at which no module sent anything are left out.";
 
 fn main(rt: HostRuntime) -> ExitCode {
     cli::end(&rt, "explain", run(&rt))
@@ -54,17 +56,23 @@ fn read(rt: &HostRuntime, file: Option<&str>) -> cli::Result<Vec<u8>> {
     let heap = rt.alloc();
     let source = Source::open(rt, file)?;
     let name = source.name;
-    let log = read_any(heap, source).map_err(|error| Error::failed(
-        heap,
-        format_args!("{name}: {error}"),
-    ))?;
+    let log = read_any(heap, source).map_err(|error| error.named(heap, name))?;
     if log.len() == LIMIT {
         // the log is told also where this cannot be said
         let _ = eprintln!(rt;
-            "explain: {LIMIT} bytes were read, the most that is read; more, if any follows, was not"
+            "explain: read {LIMIT} bytes of the log, the most that is read; more, if any follows, was not read"
         );
     }
     Ok(log)
+}
+
+// What stands above the items.
+fn tell_heading(rt: &HostRuntime, is_brief: bool) -> io::Result<()> {
+    println!(rt; "{HEADING}")?;
+    if is_brief {
+        println!(rt; "{BRIEFLY}")?;
+    }
+    println!(rt; "")
 }
 
 // Tells a log, and answers whether each item was served and the log is not faulty.
@@ -74,7 +82,7 @@ fn explain(rt: &HostRuntime, log: &[u8], is_brief: bool) -> cli::Result<bool> {
     let mut teller = Teller::new(rt.alloc(), modules, is_brief);
     let mut buffer = [Frame::default(); PLACES];
     let mut is_served = true;
-    println!(rt; "{HEADING}")?;
+    tell_heading(rt, is_brief)?;
     for found in Reader::new(log) {
         match found {
             Ok(item) => {
