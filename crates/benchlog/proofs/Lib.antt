@@ -1,4 +1,5 @@
 pub mod Passing
+pub mod Joined
 pub mod RoundTrip
 pub mod Copies
 pub mod Served

@@ -1,5 +1,5 @@
 -- What a bench does with an item and with a log. Assumes nothing.
-use Rattle.std.specs.Prelude.{◌≡◌, ℕ, ◌≤◌, ◌<◌, List, ◌++◌, [], ◌∷◌, map, length, take, Some, Option, Ok, Err, Result, MatchResult}
+use Rattle.std.specs.Prelude.{◌≡◌, ℕ, ◌≤◌, ◌<◌, List, ◌++◌, [], ◌∷◌, map, length, Some, Option, Ok, Err, Result, MatchResult}
 use Rattle.std.specs.List.{flat_map}
 use Rattle.std.specs.Io.KnownBytes.{Appends}
 use Rattle.bus.specs.declared.refusal.Refusal.{Refusal}
@@ -77,7 +77,18 @@ module _ {S : Type 0} {G : Ghosts S} where
   RanLog seats log before after old new =
       (bytes : List ℕ) × RanItems (told log) (bench_bus seats before) (bench_bus seats after) bytes × Appends old new bytes
 
-  -- or an answer could not be written, and what comes after it was not run
-  abbrev pub LeftLog : (S → List Seat) → List ℕ → Bench S G → Bench S G → Type 0
-  LeftLog seats log before after =
-      (n : ℕ) × (bytes : List ℕ) × (0 < n) × (n ≤ length (told log)) × RanItems (take n (told log)) (bench_bus seats before) (bench_bus seats after) bytes
+-- or an answer was refused, with this error, by what was given it. The first of what the log tells were run, which led to a
+-- bus, and their answers were taken, which led to a sink; then one more was run, and its answer is what this sink refused
+module _ {S : Type 0} {G : Ghosts S} {K E : Type 0} where
+  pub record LeftLog (seats_of : S → List Seat) (contents : K → Option (List ℕ)) (refuses : K → List ℕ → E → K → Type 0) (log : List ℕ) (before after : Bench S G) (old new : K) (error : E) : Type 0 where
+    pub first : List Found
+    pub last : Found
+    pub others : List Found
+    pub bus : Bus
+    pub bytes : List ℕ
+    pub sink : K
+    pub read : told log ≡ first ++ last ∷ others
+    pub ran : RanItems first (bench_bus seats_of before) bus bytes
+    pub taken : Appends (contents old) (contents sink) bytes
+    pub left : bench_bus seats_of after ≡ after_found last bus
+    pub refused : refuses sink (found_bytes bus last) error new

@@ -2,6 +2,8 @@ pub mod Kinds
 pub mod Items
 pub mod Reading
 pub mod Bytes
+pub mod Joining
+pub mod JoiningExample
 pub mod Readers
 pub mod PutItems
 pub mod Benches

@@ -12,6 +12,7 @@ mod putting;
 mod reader;
 mod reading;
 mod running;
+mod sink;
 
 pub use bench::Bench;
 pub use fault::Fault;
@@ -19,3 +20,4 @@ pub use item::Item;
 pub use kind::ItemKind;
 pub use putting::write_put_item;
 pub use reader::Reader;
+pub use sink::Sink;

@@ -4,6 +4,8 @@ ghost use Rattle.std.specs.Iterator.{YieldsFirstBy, item_count};
 ghost use Rattle.benchlog.specs.Kinds.{kind_of};
 ghost use Rattle.benchlog.specs.Items.{shown_found, shown_item};
 ghost use Rattle.benchlog.specs.Reading.{told, item_from, EndsAtFault};
+ghost use Rattle.benchlog.specs.Joining.{JoinedRead, RestRead, DamagedRead, WholeLog, FoundStands};
+ghost use Rattle.benchlog.specs.JoiningExample.{JoiningExample};
 ghost use Rattle.benchlog.specs.Readers.{left, read_as};
 
 use crate::fault::Fault;
@@ -18,6 +20,12 @@ impl<'a> Reader<'a> {
     pub fn new(log: &'a [u8]) -> Self
         ensures all { left result ≡ told log.now }
         ensures ends { EndsAtFault (left result) }
+        ensures joined { JoinedRead }
+        ensures rest { RestRead }
+        ensures damaged { DamagedRead }
+        ensures whole { WholeLog }
+        ensures stands { FoundStands }
+        ensures example { JoiningExample }
     {
         Reader { log, cursor: 0 }
     }

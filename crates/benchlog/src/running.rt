@@ -1,5 +1,5 @@
 // How a bench runs a log.
-ghost use Rattle.std.specs.Prelude.{◌≡◌, ◌≤◌, length, OnOk, OnErr};
+ghost use Rattle.std.specs.Prelude.{◌≡◌, ◌≤◌, length, OnOk, IfErr};
 ghost use Rattle.house.specs.Turns.{copied_in};
 ghost use Rattle.benchlog.specs.Items.{shown_found};
 ghost use Rattle.benchlog.specs.Benches.{bench_bus, after_found, found_bytes, RanLog, LeftLog};
@@ -8,9 +8,8 @@ use crate::bench::Bench;
 use crate::fault::Fault;
 use crate::item::Item;
 use crate::reader::Reader;
+use crate::sink::Sink;
 use station::Station;
-use std::io;
-use std::io::Write;
 
 impl<S: Station> Bench<S> {
     // Answers what was found in a log at the front of a buffer, which has the places.
@@ -29,15 +28,20 @@ impl<S: Station> Bench<S> {
         }
     }
 
-    // Makes the calls that a log records, and writes an answer to each. A fault ends the log, and its answer is the last.
-    pub fn run<W: Write>(&mut self, log: &[u8], out: &mut W) -> io::Result<()>
-        ensures done { OnOk result (RanLog S.seats log.now self.old self.new (W.contents out.old) (W.contents out.new)) }
-        ensures unfinished { OnErr result (LeftLog S.seats log.now self.old self.new) }
+    /// Makes the calls that a log records, and gives the answer to each to a sink. A fault ends the log, and its answer is
+    /// the last.
+    ///
+    /// # Errors
+    ///
+    /// The sink's, where it refuses an answer; nothing is run after that.
+    pub fn run<K: Sink>(&mut self, log: &[u8], out: &mut K) -> Result<(), K::Error>
+        ensures done { OnOk result (RanLog S.seats log.now self.old self.new (K.contents out.old) (K.contents out.new)) }
+        ensures unfinished { IfErr result (λ e. LeftLog S.seats K.contents K.refuses log.now self.old self.new out.old out.new e) }
     {
         let mut buffer = [0; 360];
         for found in Reader::new(log) {
             let count = self.write_found(&found, &mut buffer[..]);
-            out.write_all(&buffer[..count])?;
+            out.accept(&buffer[..count])?;
         }
         Ok(())
     }

@@ -1,5 +1,5 @@
 -- The number of each refusal, and its words. Assumes nothing.
-use Rattle.std.specs.Prelude.{ℕ, List, codes}
+use Rattle.std.specs.Prelude.{ℕ, List, codes, Some, None, Ok, Err, Option, Result}
 use Rattle.bus.specs.declared.refusal.Refusal.{Refusal}
 use Rattle.bus.specs.declared.refusal.Refusal.TheVariants.{SeatAddress, AddressTwice, TooManySeats, ShortBuffer, IllFormedFrame, NoSuchSeat, NoSuchButton, NotQuiet, NothingPending, NoRoom, UnknownItem, CutShort}
 
@@ -28,6 +28,11 @@ number NoRoom = 10
 number UnknownItem = 11
 -- a log item's body is cut short
 number CutShort = 12
+
+-- the number by which a result is refused; none where it is not
+abbrev pub refusal_number : {A : Type 0} → Result A Refusal → Option ℕ
+refusal_number (Ok x) = None
+refusal_number (Err r) = Some (number r)
 
 -- the refusal in words
 abbrev pub words : Refusal → List ℕ

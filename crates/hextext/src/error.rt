@@ -24,6 +24,20 @@ pub enum ReadError {
     NoMemory,
 }
 
+impl ReadError {
+    ghost use Rattle.hextext.specs.Words.{place_of};
+
+    /// Where the text is at fault.
+    pub fn place(self) -> Option<Position>
+        ensures { result ≡ place_of self }
+    {
+        match self {
+            ReadError::BadDigit(at) | ReadError::LoneDigit(at) => Some(at),
+            ReadError::NoMemory => None,
+        }
+    }
+}
+
 impl<T: Drop> From<AllocFailed<T>> for ReadError {
     ghost from_gives = { λ _ e. e ≡ NoMemory };
 

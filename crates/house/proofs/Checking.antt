@@ -1,11 +1,12 @@
 -- What follows from the first check that applies. Assumes nothing.
-use Rattle.std.proofs.Common.{◌≡◌, ◌<◌, ◌≤◌, Bool, true, false, cond, [], ◌∷◌, Some, None, Option, Ok, Err, Result, ap, ◌∙◌, arith}
+use Rattle.std.proofs.Common.{◌≡◌, ◌<◌, ◌≤◌, Bool, true, false, cond, [], ◌∷◌, Some, None, Option, Ok, Err, Result, ap, sym, ◌∙◌, arith}
 use Rattle.std.specs.Option.{option_map}
+use Rattle.std.specs.Result.{MatchResult}
 use Rattle.std.specs.List.{AllByRecursion, find}
 use Rattle.std.proofs.ByRecursion.{All-weaker}
 use Rattle.std.proofs.lemmas.Bool.{false≢true}
 use Rattle.bus.specs.declared.refusal.Refusal.{Refusal}
-use Rattle.bus.specs.Refusals.{number}
+use Rattle.bus.specs.Refusals.{number, refusal_number}
 use Rattle.house.specs.Faults.{Checks, first_refusal, OkUnless}
 use Rattle.house.specs.declared.call.Call.TheVariants.{Put, Push, Second, Step, Clear, Record}
 use Rattle.house.specs.Turns.{checks, Rises, NumbersRise, SmallestFirst}
@@ -14,6 +15,11 @@ use Rattle.house.specs.Turns.{checks, Rises, NumbersRise, SmallestFirst}
 pub OkUnless-same : {A : Type 0} (r : Result A Refusal) (o p : Option Refusal) (x y : A) → p ≡ o → (o ≡ None → x ≡ y) → OkUnless r o x → OkUnless r p y
 OkUnless-same (Ok z) o p x y e f h = (e ∙ h.0, h.1 ∙ f h.0)
 OkUnless-same (Err z) o p x y e f h = e ∙ h
+
+-- the number of a result is that of the refusal that it is answered with
+pub numbered : {A : Type 0} (r : Result A Refusal) (o : Option Refusal) (P : A → Type 0) (Q : Refusal → Type 0) → MatchResult r (λ x. (o ≡ None) × P x) (λ e. (o ≡ Some e) × Q e) → refusal_number r ≡ option_map number o
+numbered (Ok x) o P Q h = ap (option_map number) (sym h.0)
+numbered (Err e) o P Q h = ap (option_map number) (sym h.0)
 
 -- no refusal that applies has a smaller number
 abbrev Least : Refusal → Checks → Type 0

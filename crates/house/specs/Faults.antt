@@ -1,9 +1,10 @@
 -- What the builder of a house can get wrong, looking at every seat. Assumes nothing.
-use Rattle.std.specs.Prelude.{◌≡◌, Bool, false, ◌||◌, List, [], ◌∷◌, length, Some, None, Option, Result, MatchResult, ◌==◌, nat_lt}
+use Rattle.std.specs.Prelude.{◌≡◌, ℕ, Bool, false, ◌||◌, List, [], ◌∷◌, length, Some, None, Option, Result, MatchResult, ◌==◌, nat_lt}
 use Rattle.std.specs.Option.{option_map}
 use Rattle.std.specs.List.{list_any, find}
 use Rattle.bus.specs.declared.refusal.Refusal.{Refusal}
 use Rattle.bus.specs.declared.refusal.Refusal.TheVariants.{SeatAddress, AddressTwice, TooManySeats}
+use Rattle.bus.specs.Refusals.{number}
 use Rattle.station.specs.declared.addresses.Addresses.{Addresses}
 use Rattle.station.specs.Kinds.{Seat}
 use Rattle.station.specs.Seats.{count_at}
@@ -15,6 +16,10 @@ Checks = List (Bool × Refusal)
 -- the first that applies
 abbrev pub first_refusal : Checks → Option Refusal
 first_refusal cs = option_map (λ c. c.1) (find (λ c. c.0) cs)
+
+-- its number
+abbrev pub first_number : Checks → Option ℕ
+first_number cs = option_map number (first_refusal cs)
 
 -- r is the value, unless something refuses it: then r is that refusal
 abbrev pub OkUnless : {A : Type 0} → Result A Refusal → Option Refusal → A → Type 0

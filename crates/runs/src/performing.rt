@@ -1,5 +1,5 @@
 // How a call is made that is given as a value.
-ghost use Rattle.std.specs.Prelude.{◌≡◌, length};
+ghost use Rattle.std.specs.Prelude.{◌≡◌, length, OnErr};
 ghost use Rattle.house.specs.Houses.{turn_of, TakesTurn};
 ghost use Rattle.house.specs.Turns.{with_places};
 ghost use Rattle.runs.specs.Making.{places_of, sent_number};
@@ -21,13 +21,14 @@ pub(crate) fn places(call: Call) -> usize
     }
 }
 
-// Makes the call with that buffer, however many places the call says.
+/// Makes the call with that buffer, however many places the call says.
 pub fn perform<S: Station>(
     house: &mut House<S>,
     call: Call,
     buffer: &mut [Frame],
 ) -> Result<Reply, Refusal>
-    ensures { TakesTurn S.seats (turn_of S.seats house.old (with_places (length buffer.old) call)) (shown_reply result) house.new buffer.old buffer.new }
+    ensures unchanged { OnErr result (house.new ≡ house.old) }
+    ensures turn { TakesTurn S.seats (turn_of S.seats house.old (with_places (length buffer.old) call)) (shown_reply result) house.new buffer.old buffer.new }
 {
     match call {
         Call::Put(frame) => {

@@ -1,5 +1,6 @@
 // What happens to a button.
-ghost use Rattle.std.specs.Prelude.{◌≡◌};
+ghost use Rattle.std.specs.Prelude.{◌≡◌, if◌then◌else◌, Some, None, nat_lt};
+ghost use Rattle.bus.specs.Refusals.{refusal_number};
 ghost use Rattle.station.specs.Edges.{numbered_edge};
 
 use bus::Refusal;
@@ -22,7 +23,10 @@ impl TryFrom<u8> for Edge {
 
     ghost try_from_gives = { λ number r. r ≡ numbered_edge number };
 
-    fn try_from(number: u8) -> Result<Self, Refusal> {
+    fn try_from(number: u8) -> Result<Self, Refusal>
+        ensures edge { result ≡ numbered_edge number }
+        ensures number { refusal_number result ≡ (if nat_lt number 3 then None else Some 7) }
+    {
         match number {
             0 => Ok(Edge::Press),
             1 => Ok(Edge::Release),

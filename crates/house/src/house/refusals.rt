@@ -14,7 +14,7 @@ impl<S: Station> House<S> {
     pub(super) fn check_put(&self, frame: &Frame) -> Result<(), Refusal>
         ensures { OkUnless result (refusal_of S.seats self.now (Put frame.now)) tt }
     {
-        self.built.seats?;
+        self.seats()?;
         if !frame.is_well_formed() {
             return Err(Refusal::IllFormedFrame);
         }
@@ -74,7 +74,7 @@ impl<S: Station> House<S> {
     fn seats_to_act(&self, places: usize) -> Result<usize, Refusal>
         ensures { OkUnless result (first_refusal (acting (S.seats (station_of self.now)) places)) (length (S.seats (station_of self.now))) }
     {
-        let seats = self.built.seats?;
+        let seats = self.seats()?;
         if places < 9 * seats {
             return Err(Refusal::ShortBuffer);
         }

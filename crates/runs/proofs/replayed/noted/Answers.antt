@@ -8,7 +8,7 @@ use Rattle.runs.proofs.replayed.noted.Goals as goal
 
 pub returns-clause-entry : goal.returns-clause-entry
 returns-clause-entry c k =
-    let told = k.perform-answer.ensures in
+    let told = k.perform-answer.ensures.turn in
     let x = bus_of c.S.Station.seats k.args.house.now in
     let new = k.perform-answer.new.buffer in
     let old = k.args.buffer.items in

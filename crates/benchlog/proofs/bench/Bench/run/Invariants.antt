@@ -10,5 +10,5 @@ use Rattle.benchlog.proofs.bench.Bench.run.Given as goal
 abbrev pub invariant-loop-found : goal.invariant-loop-found
 invariant-loop-found g l = record {
   read : told l.log ≡ map shown_found l.yielded ++ left l.found-iterator;
-  ran : (bytes : List ℕ) × RanItems (map shown_found l.yielded) (bench_bus g.S.Station.seats l.initial.self) (bench_bus g.S.Station.seats l.self) bytes × Appends (g.W.Write.contents l.initial.out) (g.W.Write.contents l.out) bytes;
+  ran : (bytes : List ℕ) × RanItems (map shown_found l.yielded) (bench_bus g.S.Station.seats l.initial.self) (bench_bus g.S.Station.seats l.self) bytes × Appends (g.K.Sink.contents l.initial.out) (g.K.Sink.contents l.out) bytes;
 }
