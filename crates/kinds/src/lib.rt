@@ -71,7 +71,7 @@ pub fn bench_modules() -> BenchModules
     }
 }
 
-// The cells that `terms` counts in a module are those of its kind.
+/// The cells that `terms` counts in a module are those of its kind, whatever the setup.
 pub fn cells_are_of_the_kinds()
     ensures relay { EveryRelay (λ k. k.memory ≡ cells_of ModuleType.Relay) }
     ensures panel { EveryPanel (λ k. k.memory ≡ cells_of ModuleType.Panel) }

@@ -66,18 +66,19 @@ pub trait Module {
     ghost sized: { (m : Self) → length (content m).cells ≡ (design m).memory };
 }
 
-// A kind of module: what all modules of the kind share, and the setup that a single one is made with.
+/// A kind of module: what all modules of the kind share, and the setup that a single one is made with.
 pub trait ModuleKind: Module {
+    /// What a single module is made with.
     type Setup;
 
-    // How many cells the memory has.
     ghost MEMORY: { ℕ };
 
+    /// How many cells the memory has, 1,024 at most.
     const MEMORY: usize;
 
-    // How many buttons there are.
     ghost BUTTONS: { ℕ };
 
+    /// How many buttons there are; their channels count from 1.
     const BUTTONS: u8;
 
     // How a module with a setup is designed.
@@ -86,7 +87,7 @@ pub trait ModuleKind: Module {
     // The state bytes of a new module.
     ghost fresh: { List ℕ };
 
-    // A new module: each cell holds 0xFF.
+    /// A new module: each cell holds 0xFF, and the state bytes are the fresh ones of the kind.
     fn new(setup: Self::Setup) -> Self
         ensures design { Self.design result ≡ design_with setup }
         ensures cells { (Self.content result).cells ≡ replicate MEMORY 255 }

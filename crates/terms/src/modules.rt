@@ -12,7 +12,8 @@ pub enum ModuleType {
 }
 
 impl ModuleType {
-    // How many cells its memory has; in its record, the state bytes follow them.
+    /// How many cells its memory has; in its record, the state bytes follow them. `kinds` proves that these are the cells of
+    /// the kind.
     pub fn cells(self) -> usize
         ensures { result ≡ cells_of self }
     {
