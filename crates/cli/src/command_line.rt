@@ -34,10 +34,24 @@ pub fn command<'a>(heap: Global, name: &'a str, about: &'a str) -> Result<Comman
     // `clap` knows the word where there are subcommands, and lists it
     let help = Command::new(heap, "help").hide(true);
     let command = Command::new(heap, name)
+        .bin_name(name)?
         .about(about)
         .version(VERSION)
         .subcommand(help)?;
     Ok(command)
+}
+
+/// Reads the command line of a program that takes no arguments of its own.
+pub fn no_arguments(rt: &HostRuntime, name: &str, about: &str) -> Result<()>
+    ensures { IfErr result (λ e. (e ≡ NoMemory) ⊎ ((status_of e ≡ 0) ⊎ (status_of e ≡ 2))) }
+{
+    let words = words(rt)?;
+    matches(
+        rt.alloc(),
+        command(rt.alloc(), name, about)?,
+        words.as_slice(),
+    )?;
+    Ok(())
 }
 
 /// An argument with the name of the file to read, `FILE`, for a program that reads input.

@@ -6,7 +6,7 @@ mod ending;
 mod error;
 mod source;
 
-pub use command_line::{VERSION, command, file_argument, matches, words};
+pub use command_line::{VERSION, command, file_argument, matches, no_arguments, words};
 pub use ending::end;
 pub use error::{Error, Result};
-pub use source::Source;
+pub use source::{Line, Source};

@@ -4,9 +4,10 @@ ghost use Rattle.cli.specs.Sources.{source_name};
 ghost use Rattle.cli.specs.Statuses.{status_of};
 
 use crate::error::{Error, Result};
+use std::alloc::Global;
 use std::fs::File;
-use std::io;
 use std::io::{Read, StdinLock};
+use std::{fmt, io};
 
 const STANDARD_INPUT: &str = "standard input";
 
@@ -51,6 +52,17 @@ impl<'a> Source<'a> {
             Err(error) => Err(Error::failed(rt.alloc(), format_args!("{name}: {error}"))),
         }
     }
+
+    /// All of the input, which must be UTF-8 text.
+    pub fn read_text(self, heap: Global) -> Result<String>
+        ensures { IfErr result (λ e. status_of e ≡ 1) }
+    {
+        let name = self.name;
+        match io::read_to_string(heap, self) {
+            Ok(text) => Ok(text),
+            Err(error) => Err(Error::failed(heap, format_args!("{name}: {error}"))),
+        }
+    }
 }
 
 impl Read for Source<'_> {
@@ -59,5 +71,24 @@ impl Read for Source<'_> {
             Reader::File(file) => file.read(buf),
             Reader::StandardInput(input) => input.read(buf),
         }
+    }
+}
+
+/// A line of an input.
+#[derive(Clone, Copy)]
+pub struct Line<'a> {
+    /// What the input is called.
+    pub file: &'a str,
+    /// Counts from 1.
+    pub number: usize,
+}
+
+impl Line<'_> {
+    /// That something is wrong with the line.
+    pub fn failed<D: fmt::Display + Drop>(self, heap: Global, why: D) -> Error
+        ensures { status_of result ≡ 1 }
+    {
+        let Line { file, number } = self;
+        Error::failed(heap, format_args!("{file}:{number}: {why}"))
     }
 }

@@ -1,7 +1,6 @@
 // Shows how a button of a panel locks a channel of a button interface, which is free again when the time is over.
 #![tactic(auto)]
 
-use anyhow::anyhow;
 use bus::Frame;
 use buttons::ButtonInterface;
 use house::House;
@@ -11,6 +10,7 @@ use module::Seat;
 use panel::{Panel, PanelSetup};
 use station::{Edge, Rail};
 use std::collections::BTreeMap;
+use std::process::ExitCode;
 use terms::ModuleType;
 use trace::Trace;
 
@@ -33,15 +33,16 @@ fn modules() -> Modules {
     }
 }
 
-fn main(rt: HostRuntime) -> anyhow::Result<()> {
-    run(&rt)
+const ABOUT: &str = "Shows how a button of a panel locks a channel of a button interface, call by call";
+
+fn main(rt: HostRuntime) -> ExitCode {
+    cli::end(&rt, "hold", run(&rt))
 }
 
 // What is seated, and as what it is shown, is the program's own.
-fn run(rt: &HostRuntime) -> anyhow::Result<()> {
-    let house = House::new(rt.alloc(), modules()).map_err(|_| anyhow!(
-        "there is no memory for the house"
-    ))?;
+fn run(rt: &HostRuntime) -> cli::Result<()> {
+    cli::no_arguments(rt, "hold", ABOUT)?;
+    let house = House::new(rt.alloc(), modules()).map_err(|_| cli::Error::NoMemory)?;
     let kinds = [(PANEL, ModuleType::Panel), (INTERFACE, ModuleType::Buttons)];
     let kinds = BTreeMap::from_array(rt.alloc(), kinds)?;
     let mut trace = Trace::new(rt.alloc(), house, kinds);
@@ -58,9 +59,9 @@ fn ask(
     trace: &mut Trace<Modules>,
     count: u8,
     bytes: [u8; 8],
-) -> anyhow::Result<()> {
+) -> cli::Result<()> {
     trace.put(rt, Frame::new(3, INTERFACE, count, bytes))?;
-    trace.settle(rt)
+    Ok(trace.settle(rt)?)
 }
 
 // Pushes button 1 of a module, and lets all frames pass.
@@ -69,13 +70,13 @@ fn push(
     trace: &mut Trace<Modules>,
     address: u8,
     edge: Edge,
-) -> anyhow::Result<()> {
+) -> cli::Result<()> {
     trace.push(rt, address, 1, edge as u8)?;
-    trace.settle(rt)
+    Ok(trace.settle(rt)?)
 }
 
 // Writes the link record: the panel's address, button 1, action 3 (lock), time code 0x78 (120 s), channel 1.
-fn link(rt: &HostRuntime, trace: &mut Trace<Modules>) -> anyhow::Result<()> {
+fn link(rt: &HostRuntime, trace: &mut Trace<Modules>) -> cli::Result<()> {
     println!(rt;
         "Link record 0 of the interface: button 1 of the panel locks channel 1 for 2 minutes."
     )?;
@@ -85,7 +86,7 @@ fn link(rt: &HostRuntime, trace: &mut Trace<Modules>) -> anyhow::Result<()> {
 }
 
 // Locks the channel, and shows that it is locked.
-fn lock(rt: &HostRuntime, trace: &mut Trace<Modules>) -> anyhow::Result<()> {
+fn lock(rt: &HostRuntime, trace: &mut Trace<Modules>) -> cli::Result<()> {
     println!(rt; "Button 1 of the panel is pressed and released.")?;
     push(rt, trace, PANEL, Edge::Press)?;
     push(rt, trace, PANEL, Edge::Release)?;
@@ -98,7 +99,7 @@ fn lock(rt: &HostRuntime, trace: &mut Trace<Modules>) -> anyhow::Result<()> {
 }
 
 // Lets the 2 minutes pass, the last three seconds one by one.
-fn wait(rt: &HostRuntime, trace: &mut Trace<Modules>) -> anyhow::Result<()> {
+fn wait(rt: &HostRuntime, trace: &mut Trace<Modules>) -> cli::Result<()> {
     println!(rt; "Almost 2 minutes pass.")?;
     trace.pass(rt, 117)?;
     for left in [3, 2, 1] {
@@ -112,7 +113,7 @@ fn wait(rt: &HostRuntime, trace: &mut Trace<Modules>) -> anyhow::Result<()> {
 }
 
 // Shows that the channel is free, and what time it is.
-fn use_again(rt: &HostRuntime, trace: &mut Trace<Modules>) -> anyhow::Result<()> {
+fn use_again(rt: &HostRuntime, trace: &mut Trace<Modules>) -> cli::Result<()> {
     println!(rt;
         "The 2 minutes are over. Button 1 of the interface is pressed and released: both are sent."
     )?;

@@ -9,17 +9,30 @@ mod case;
 mod stations;
 mod trial;
 
-use anyhow::{Context, bail};
 use case::Case;
-use std::io;
+use cli::{Error, Line, Source};
+use std::process::ExitCode;
 use trial::first_difference;
 
-fn main(rt: HostRuntime) -> anyhow::Result<()> {
-    let table = io::read_to_string(rt.alloc(), rt.reader())?;
-    run(&rt, table.as_str())
+const ABOUT: &str =
+    "Tries a table of calls on houses, and tells which do not come out as the table says";
+
+fn main(rt: HostRuntime) -> ExitCode {
+    cli::end(&rt, "house_cases", run(&rt))
 }
 
-fn run(rt: &HostRuntime, table: &str) -> anyhow::Result<()> {
+fn run(rt: &HostRuntime) -> cli::Result<()> {
+    let heap = rt.alloc();
+    let words = cli::words(rt)?;
+    let command = cli::command(heap, "house_cases", ABOUT)?.arg(cli::file_argument(heap))?;
+    let matches = cli::matches(heap, command, words.as_slice())?;
+    let source = Source::open(rt, matches.get_str("FILE"))?;
+    let file = source.name;
+    let table = source.read_text(heap)?;
+    try_table(rt, file, table.as_str())
+}
+
+fn try_table(rt: &HostRuntime, file: &str, table: &str) -> cli::Result<()> {
     let mut cases = 0usize;
     let mut wrong = 0usize;
     for (index, line) in table.lines().enumerate() {
@@ -31,24 +44,31 @@ fn run(rt: &HostRuntime, table: &str) -> anyhow::Result<()> {
         if text.is_empty() || text.starts_with('#') {
             continue;
         }
-        let differs = try_line(rt, number, text).context(format_args!("line {number}"))?;
+        let differs = try_line(rt, Line { file, number }, text)?;
         cases = cases.saturating_add(1);
         wrong = wrong.saturating_add(usize::from(differs != is_mistaken));
     }
     println!(rt; "{cases} cases, {wrong} not as they should be")?;
     if wrong != 0 {
-        bail!("houses do not do what the table says");
+        return Err(Error::failed(
+            rt.alloc(),
+            "houses do not do what the table says",
+        ));
     }
     Ok(())
 }
 
 // Tries the case of a line, and answers whether it differs.
-fn try_line(rt: &HostRuntime, number: usize, line: &str) -> anyhow::Result<bool> {
+fn try_line(rt: &HostRuntime, place: Line<'_>, line: &str) -> cli::Result<bool> {
     let heap = rt.alloc();
-    let case = Case::read(heap, line)?.context("this is no case")?;
-    let Some(difference) = first_difference(heap, &case)? else {
+    let Some(case) = Case::read(heap, line)? else {
+        return Err(place.failed(heap, "this is no case"));
+    };
+    let difference = first_difference(heap, &case).map_err(|error| place.failed(heap, error))?;
+    let Some(difference) = difference else {
         return Ok(false);
     };
+    let number = place.number;
     let name = case.name;
     let way = difference.way;
     let step = difference.step;

@@ -1,5 +1,4 @@
 // What came out otherwise.
-use anyhow::Result;
 use hextext::write_line;
 use std::io;
 
@@ -20,7 +19,7 @@ pub(crate) struct Difference {
 }
 
 impl Difference {
-    pub(crate) fn print(&self, rt: &HostRuntime) -> Result<()> {
+    pub(crate) fn print(&self, rt: &HostRuntime) -> io::Result<()> {
         match self.subject {
             Subject::Answers => println!(rt; "  answers")?,
             Subject::Lines => println!(rt; "  answers as lines of text")?,
@@ -31,7 +30,6 @@ impl Difference {
         print!(rt; "    expected ")?;
         write_line(self.expected.as_slice(), &mut io::writer(rt))?;
         print!(rt; "    found    ")?;
-        write_line(self.found.as_slice(), &mut io::writer(rt))?;
-        Ok(())
+        write_line(self.found.as_slice(), &mut io::writer(rt))
     }
 }

@@ -9,9 +9,9 @@ mod look;
 mod modules;
 mod trial;
 
-use anyhow::{Context, bail};
 use case::Case;
-use std::io;
+use cli::{Error, Line, Source};
+use std::process::ExitCode;
 use trial::differences;
 
 // How many cases were tried, how many of them differ, and how many mistakes were found. One that was not found counts as
@@ -23,12 +23,25 @@ struct Tally {
     mistakes: usize,
 }
 
-fn main(rt: HostRuntime) -> anyhow::Result<()> {
-    let table = io::read_to_string(rt.alloc(), rt.reader())?;
-    run(&rt, table.as_str())
+const ABOUT: &str =
+    "Tries a table of logs on the bench, and tells which do not come out as the table says";
+
+fn main(rt: HostRuntime) -> ExitCode {
+    cli::end(&rt, "log_cases", run(&rt))
 }
 
-fn run(rt: &HostRuntime, table: &str) -> anyhow::Result<()> {
+fn run(rt: &HostRuntime) -> cli::Result<()> {
+    let heap = rt.alloc();
+    let words = cli::words(rt)?;
+    let command = cli::command(heap, "log_cases", ABOUT)?.arg(cli::file_argument(heap))?;
+    let matches = cli::matches(heap, command, words.as_slice())?;
+    let source = Source::open(rt, matches.get_str("FILE"))?;
+    let file = source.name;
+    let table = source.read_text(heap)?;
+    try_table(rt, file, table.as_str())
+}
+
+fn try_table(rt: &HostRuntime, file: &str, table: &str) -> cli::Result<()> {
     let mut tally = Tally {
         cases: 0,
         differ: 0,
@@ -36,12 +49,13 @@ fn run(rt: &HostRuntime, table: &str) -> anyhow::Result<()> {
     };
     for (index, line) in table.lines().enumerate() {
         let number = index.saturating_add(1);
+        let place = Line { file, number };
         if let Some(mistaken) = line.strip_prefix("! ") {
-            let found = try_mistake(rt, number, mistaken).context(format_args!("line {number}"))?;
+            let found = try_mistake(rt, place, mistaken)?;
             tally.mistakes = tally.mistakes.saturating_add(usize::from(found));
             tally.differ = tally.differ.saturating_add(usize::from(!found));
         } else if !is_comment(line) {
-            let differs = try_line(rt, number, line).context(format_args!("line {number}"))?;
+            let differs = try_line(rt, place, line)?;
             tally.cases = tally.cases.saturating_add(1);
             tally.differ = tally.differ.saturating_add(usize::from(differs));
         }
@@ -55,12 +69,16 @@ fn is_comment(line: &str) -> bool {
 }
 
 // Tries the case of a line, and answers whether it differs.
-fn try_line(rt: &HostRuntime, number: usize, line: &str) -> anyhow::Result<bool> {
-    let case = Case::read(line).context("this is no case")?;
-    let differences = differences(rt.alloc(), &case)?;
+fn try_line(rt: &HostRuntime, place: Line<'_>, line: &str) -> cli::Result<bool> {
+    let heap = rt.alloc();
+    let Some(case) = Case::read(line) else {
+        return Err(place.failed(heap, "this is no case"));
+    };
+    let differences = differences(heap, &case).map_err(|error| place.failed(heap, error))?;
     if differences.is_empty() {
         return Ok(false);
     }
+    let number = place.number;
     let name = case.name;
     println!(rt; "line {number}: {name}")?;
     for difference in &differences {
@@ -70,15 +88,16 @@ fn try_line(rt: &HostRuntime, number: usize, line: &str) -> anyhow::Result<bool>
 }
 
 // Tries a case with a mistake, and answers whether it was found.
-fn try_mistake(rt: &HostRuntime, number: usize, line: &str) -> anyhow::Result<bool> {
-    let found = try_line(rt, number, line)?;
+fn try_mistake(rt: &HostRuntime, place: Line<'_>, line: &str) -> cli::Result<bool> {
+    let found = try_line(rt, place, line)?;
     if !found {
+        let number = place.number;
         println!(rt; "line {number}: the mistake was not found")?;
     }
     Ok(found)
 }
 
-fn sum_up(rt: &HostRuntime, tally: Tally) -> anyhow::Result<()> {
+fn sum_up(rt: &HostRuntime, tally: Tally) -> cli::Result<()> {
     let Tally {
         cases,
         differ,
@@ -86,7 +105,10 @@ fn sum_up(rt: &HostRuntime, tally: Tally) -> anyhow::Result<()> {
     } = tally;
     if differ != 0 {
         println!(rt; "{cases} cases, {differ} differ")?;
-        bail!("the bench does not do what the table says");
+        return Err(Error::failed(
+            rt.alloc(),
+            "the bench does not do what the table says",
+        ));
     }
     println!(rt; "{cases} cases, all as they should be, and {mistakes} mistakes, all found")?;
     Ok(())

@@ -10,7 +10,6 @@ mod setups;
 mod there;
 
 use act::{Act, calls_of};
-use anyhow::anyhow;
 use bus::Frame;
 use group::{GROUP, PANEL, RELAY};
 use pairing::{all_sent, frames_of, same_frames, same_records};
@@ -18,15 +17,20 @@ use record::show_record;
 use runs::{Replayed, replay};
 use station::Station;
 use std::collections::BTreeMap;
+use std::process::ExitCode;
 use terms::ModuleType;
 use trace::Shown;
 use words::HexAndWords;
 
-fn main(rt: HostRuntime) -> anyhow::Result<()> {
-    run(&rt)
+const ABOUT: &str =
+    "Shows two houses that share a group of modules, which does the same in both, call by call";
+
+fn main(rt: HostRuntime) -> ExitCode {
+    cli::end(&rt, "pair", run(&rt))
 }
 
-fn run(rt: &HostRuntime) -> anyhow::Result<()> {
+fn run(rt: &HostRuntime) -> cli::Result<()> {
+    cli::no_arguments(rt, "pair", ABOUT)?;
     println!(rt; "Two houses share a group of modules, 10 and 20. In all else they differ.")?;
     println!(rt;
         "Here: a relay at 10 under a sieve, a panel at 20, and a button interface at 30."
@@ -51,11 +55,9 @@ fn play<S: Station + Drop>(
     modules: S,
     shown: &mut Shown,
     acts: &[Act],
-) -> anyhow::Result<Replayed<S>> {
+) -> cli::Result<Replayed<S>> {
     let calls = calls_of(rt.alloc(), acts)?;
-    let done = replay(rt.alloc(), modules, calls.as_slice()).map_err(|_| anyhow!(
-        "there is no memory for the calls"
-    ))?;
+    let done = replay(rt.alloc(), modules, calls.as_slice()).map_err(|_| cli::Error::NoMemory)?;
     let mut entries = done.entries.iter();
     for act in acts {
         println!(rt; "{}", act.text)?;
@@ -74,7 +76,7 @@ fn show_group<S: Station>(
     place: &str,
     done: &Replayed<S>,
     shown: &Shown,
-) -> anyhow::Result<Vec<Frame>> {
+) -> cli::Result<Vec<Frame>> {
     let pending = done.house.pending();
     println!(rt; "{place}, {pending} frames are pending at the end. The group's records:")?;
     show_record(rt, &done.house, RELAY, ModuleType::Relay)?;
@@ -93,7 +95,7 @@ fn show_group<S: Station>(
 }
 
 // Says whether the group did the same in both houses.
-fn sum_up(rt: &HostRuntime, records: bool, frames: bool, number: usize) -> anyhow::Result<()> {
+fn sum_up(rt: &HostRuntime, records: bool, frames: bool, number: usize) -> cli::Result<()> {
     let records = verdict(records);
     let frames = verdict(frames);
     println!(rt; "The group's records: {records}. The group's frames: {frames} ({number}).")?;

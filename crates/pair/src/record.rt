@@ -1,6 +1,7 @@
 // Records, as an installer reads them.
 use house::House;
 use station::Station;
+use std::io;
 use terms::ModuleType;
 
 // Shows the record of a module in one line: its cells, except those that are as in a new memory, and its state bytes.
@@ -9,7 +10,7 @@ pub fn show_record<S: Station>(
     house: &House<S>,
     address: u8,
     module: ModuleType,
-) -> anyhow::Result<()> {
+) -> io::Result<()> {
     let cells = module.cells();
     print!(rt; "{module} {address:02X}: all cells FF")?;
     let mut differs = false;
@@ -30,6 +31,5 @@ pub fn show_record<S: Station>(
         };
         print!(rt; " {byte:02X}")?;
     }
-    println!(rt; "")?;
-    Ok(())
+    println!(rt; "")
 }
