@@ -3,8 +3,8 @@ use crate::numbers::{Numbers, Several};
 use bus::Frame;
 use std::fmt;
 
-// Eight lamps by their bits; one with both blinking bits blinks very fast. One whose bits say that it is on and blinks is
-// told as what its bits say.
+/// Eight lamps by their bits; one with both blinking bits blinks very fast. One whose bits say that it is on and blinks is
+/// told as what its bits say.
 #[derive(Clone, Copy)]
 pub struct Lamps {
     pub on: u8,
@@ -29,7 +29,11 @@ impl fmt::Display for Lamps {
         for (bits, mode) in modes(0, slow & both, fast & both) {
             if bits != 0 {
                 let numbers = Numbers(bits);
-                let whose = if bits.count_ones() == 1 { "its" } else { "their" };
+                let whose = if bits.count_ones() == 1 {
+                    "its"
+                } else {
+                    "their"
+                };
                 write!(f, "{numbers} on and {mode} by {whose} bits; ")?;
             }
         }
