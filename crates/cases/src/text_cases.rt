@@ -73,10 +73,7 @@ fn messages(rt: HostRuntime) -> Result<(), Fail> {
         offset: 40,
     };
     let cases = [
-        (
-            ReadError::BadDigit(at),
-            "3:17: not a hexadecimal digit",
-        ),
+        (ReadError::BadDigit(at), "3:17: not a hexadecimal digit"),
         (
             ReadError::LoneDigit(at),
             "3:17: a digit alone; a byte is two digits",
