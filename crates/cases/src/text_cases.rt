@@ -33,23 +33,28 @@ fn texts_that_read(rt: HostRuntime) -> Result<(), Fail> {
 
 #[test]
 fn texts_at_fault(rt: HostRuntime) {
-    let cases: [(&[u8], (usize, usize), bool); 13] = [
-        (b"zz", (1, 1), false),
-        (b"1G", (1, 2), false),
-        (b"01 02\n03 0g", (2, 5), false),
-        (b"# a\n\n  01 ; x", (3, 6), false),
-        (b"00\t\xFF", (1, 4), false),
-        (b"0\x80", (1, 2), false),
-        (b"1 2", (1, 1), true),
-        (b"7\t", (1, 1), true),
-        (b"00 f\n00", (1, 4), true),
-        (b"00\nf\r\n00", (2, 1), true),
-        (b"00\n00 a#b", (2, 4), true),
-        (b"00\n00\n\n00 a", (4, 4), true),
-        (b"000", (1, 3), true),
+    // the line, the column, the bytes before; and whether a digit is alone
+    let cases: [(&[u8], (usize, usize, usize), bool); 13] = [
+        (b"zz", (1, 1, 0), false),
+        (b"1G", (1, 2, 1), false),
+        (b"01 02\n03 0g", (2, 5, 10), false),
+        (b"# a\n\n  01 ; x", (3, 6, 10), false),
+        (b"00\t\xFF", (1, 4, 3), false),
+        (b"0\x80", (1, 2, 1), false),
+        (b"1 2", (1, 1, 0), true),
+        (b"7\t", (1, 1, 0), true),
+        (b"00 f\n00", (1, 4, 3), true),
+        (b"00\nf\r\n00", (2, 1, 3), true),
+        (b"00\n00 a#b", (2, 4, 6), true),
+        (b"00\n00\n\n00 a", (4, 4, 10), true),
+        (b"000", (1, 3, 2), true),
     ];
-    for (text, (line, column), lone) in cases {
-        let at = Position { line, column };
+    for (text, (line, column, offset), lone) in cases {
+        let at = Position {
+            line,
+            column,
+            offset,
+        };
         let want = if lone {
             ReadError::LoneDigit(at)
         } else {
@@ -65,15 +70,13 @@ fn messages(rt: HostRuntime) -> Result<(), Fail> {
     let at = Position {
         line: 3,
         column: 17,
+        offset: 40,
     };
     let cases = [
-        (
-            ReadError::BadDigit(at),
-            "line 3, column 17: not a hexadecimal digit",
-        ),
+        (ReadError::BadDigit(at), "3:17: not a hexadecimal digit"),
         (
             ReadError::LoneDigit(at),
-            "line 3, column 17: a digit alone; a byte is two digits",
+            "3:17: a digit alone; a byte is two digits",
         ),
         (ReadError::NoMemory, "not enough memory for the bytes"),
     ];

@@ -20,10 +20,7 @@ fn length_at_start(bytes: &[u8]) -> usize
     ensures value { result ≡ prefix_len is_of_word bytes.now }
     ensures within { result ≤ length bytes.now }
 {
-    bytes
-        .iter()
-        .take_while(|byte| is_of_word(**byte))
-        .count()
+    bytes.iter().take_while(|byte| is_of_word(**byte)).count()
 }
 
 // How much of a word stands at their end.

@@ -33,7 +33,8 @@ fn modules() -> Modules {
     }
 }
 
-const ABOUT: &str = "Shows how a button of a panel locks a channel of a button interface, call by call";
+const ABOUT: &str =
+    "Shows how a button of a panel locks a channel of a button interface, call by call";
 
 fn main(rt: HostRuntime) -> ExitCode {
     cli::end(&rt, "hold", run(&rt))
@@ -54,23 +55,13 @@ fn run(rt: &HostRuntime) -> cli::Result<()> {
 }
 
 // Asks something of the button interface, and lets all frames pass.
-fn ask(
-    rt: &HostRuntime,
-    trace: &mut Trace<Modules>,
-    count: u8,
-    bytes: [u8; 8],
-) -> cli::Result<()> {
+fn ask(rt: &HostRuntime, trace: &mut Trace<Modules>, count: u8, bytes: [u8; 8]) -> cli::Result<()> {
     trace.put(rt, Frame::new(3, INTERFACE, count, bytes))?;
     Ok(trace.settle(rt)?)
 }
 
 // Pushes button 1 of a module, and lets all frames pass.
-fn push(
-    rt: &HostRuntime,
-    trace: &mut Trace<Modules>,
-    address: u8,
-    edge: Edge,
-) -> cli::Result<()> {
+fn push(rt: &HostRuntime, trace: &mut Trace<Modules>, address: u8, edge: Edge) -> cli::Result<()> {
     trace.push(rt, address, 1, edge as u8)?;
     Ok(trace.settle(rt)?)
 }

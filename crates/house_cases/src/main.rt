@@ -50,10 +50,7 @@ fn try_table(rt: &HostRuntime, file: &str, table: &str) -> cli::Result<()> {
     }
     println!(rt; "{cases} cases, {wrong} not as they should be")?;
     if wrong != 0 {
-        return Err(Error::failed(
-            rt.alloc(),
-            "houses do not do what the table says",
-        ));
+        return Err(Error::failed(rt.alloc(), "houses do not do what the table says"));
     }
     Ok(())
 }

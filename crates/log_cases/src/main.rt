@@ -105,10 +105,7 @@ fn sum_up(rt: &HostRuntime, tally: Tally) -> cli::Result<()> {
     } = tally;
     if differ != 0 {
         println!(rt; "{cases} cases, {differ} differ")?;
-        return Err(Error::failed(
-            rt.alloc(),
-            "the bench does not do what the table says",
-        ));
+        return Err(Error::failed(rt.alloc(), "the bench does not do what the table says"));
     }
     println!(rt; "{cases} cases, all as they should be, and {mistakes} mistakes, all found")?;
     Ok(())

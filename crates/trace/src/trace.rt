@@ -57,13 +57,7 @@ impl<S: Station + Drop> Trace<S> {
     }
 
     // Pushes a button; the edge is a number, as the house takes it.
-    pub fn push(
-        &mut self,
-        rt: &HostRuntime,
-        address: u8,
-        channel: u8,
-        edge: u8,
-    ) -> io::Result<()>
+    pub fn push(&mut self, rt: &HostRuntime, address: u8, channel: u8, edge: u8) -> io::Result<()>
         ensures { bus_of S.seats self.new.house ≡ called (Push address channel edge 144) (bus_of S.seats self.old.house) }
     {
         let mut buffer = [Frame::default(); PLACES];
