@@ -1,5 +1,5 @@
 // How a command line is read.
-ghost use Rattle.std.specs.Prelude.{◌≡◌, ◌⊎◌, true, map, IfOk, IfErr, IsOkUnless, string_bytes};
+ghost use Rattle.std.specs.Prelude.{◌≡◌, ◌⊎◌, true, false, codes, map, IfOk, IfErr, IsOkUnless, string_bytes};
 ghost use Rattle.clap.specs.declared.error.kind.ErrorKind.TheVariants.{OutOfMemory};
 ghost use Rattle.clap.specs.Words.{HasMatchesOf, IsParsedFrom, app_of, kind_of, takes};
 ghost use Rattle.cli.specs.Statuses.{status_of, status_of_kind};
@@ -55,7 +55,10 @@ pub fn no_arguments(rt: &HostRuntime, name: &str, about: &str) -> Result<()>
 }
 
 /// An argument with the name of the file to read, `FILE`, for a program that reads input.
-pub fn file_argument<'a>(heap: Global) -> Arg<'a> {
+pub fn file_argument<'a>(heap: Global) -> Arg<'a>
+    ensures id { result.id.now ≡ codes "FILE" }
+    ensures optional { result.required ≡ false }
+{
     Arg::new(heap, "FILE").help("The file to read; - or none is standard input")
 }
 
