@@ -23,7 +23,7 @@ A frame is priority, address, RTR, count and eight data bytes. A push has an add
 00 press, 01 release, 02 long press. A step lets the frame pass that waits longest. At most 60,000 bytes of a log are read.
 
 The status is 0, also if items are refused; 1 if the log cannot be read or the answers cannot be written; 2 if the
-command line is wrong.";
+command line is wrong; 3 as --strict says.";
 
 // The form of the log, whether a refusal counts as a failure, and the file to read.
 #[derive(Clone, Copy)]
