@@ -49,6 +49,18 @@ pub(crate) fn answer<S: Station>(
             let pending = house.pending();
             Ok(format!(in heap; "{pending}")?)
         }
+        Asked::Seats => counted(heap, house.seats()),
+    }
+}
+
+// How many seats there are, or the builder's fault.
+fn counted(heap: Global, seats: Result<usize, Refusal>) -> Result<String> {
+    match seats {
+        Ok(count) => Ok(format!(in heap; "{count}")?),
+        Err(refusal) => {
+            let number = refusal.number();
+            Ok(format!(in heap; "refused {number}")?)
+        }
     }
 }
 

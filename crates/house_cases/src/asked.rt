@@ -2,12 +2,13 @@
 use bus::Frame;
 use house::Call;
 
-// A call with the places of its buffer, the group of an address, or how many frames are pending.
+// A call with the places of its buffer, the group of an address, how many frames are pending, or how many seats there are.
 #[derive(Clone, Copy)]
 pub(crate) enum Asked {
     Call { call: Call, places: usize },
     Group { address: u8, places: usize },
     Pending,
+    Seats,
 }
 
 impl Asked {
@@ -16,6 +17,9 @@ impl Asked {
         let (verb, rest) = text.split_once(' ').unwrap_or((text, ""));
         if verb == "pending" {
             return Some(Asked::Pending);
+        }
+        if verb == "seats" {
+            return Some(Asked::Seats);
         }
         if verb == "group" {
             let (address, places) = at(rest)?;
