@@ -38,7 +38,7 @@ module _ (v : Variant) (s : InterfaceSetup) (own : ℕ) (channel : ℕ) (low : 1
   at : (x : State) → decoded (encoded x) ≡ x → hold_on (decoded (encoded x)).holds channel ≡ hold_on x.holds channel
   at x e = ap (λ y. hold_on y.holds channel) e
 
-  hold_moves : (r : Record) (e : Event) → AsksNothing v (interface_kind v s) own r channel e → hold ((interface_kind v s).acts own r e).after channel ≡ moved e (hold r channel)
+  pub hold_moves : (r : Record) (e : Event) → AsksNothing v (interface_kind v s) own r channel e → hold ((interface_kind v s).acts own r e).after channel ≡ moved e (hold r channel)
   hold_moves r (Heard f) none =
       let x = decoded r.state in
       let Same : Outcome → Type 0 = λ o. hold o.after channel ≡ hold r channel in

@@ -1,7 +1,7 @@
-mod Eight
+pub mod Eight
 mod Records
 mod Replies
-mod Holding
+pub mod Holding
 mod StatusBits
 mod Clocks
 mod Examples

@@ -1,8 +1,9 @@
+pub mod Bits
 mod Sending
-mod Pairs
+pub mod Pairs
 mod LampFrames
-mod Times
-mod Commands
+pub mod Times
+pub mod Commands
 mod Cells
 mod Blocks
 mod MemoryReads

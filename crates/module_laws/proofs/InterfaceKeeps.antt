@@ -1,0 +1,114 @@
+-- What alone changes the holds and the pressed buttons of a button interface. Assumes nothing.
+use Rattle.std.proofs.Common.{◌≡◌, ℕ, zero, suc, ◌+◌, ◌-◌, ◌*◌, ◌/◌, ◌%◌, ◌^◌, ◌<◌, ◌≤◌, min, Bool, true, false, cond, ◌&&◌, ◌||◌, eqb, ltb, List, get_or, is_some, Some, None, Option, sym, refl, ap, ◌∙◌, inl, inr, arith}
+use Rattle.std.specs.Int.{bit_at}
+use lib.Bits.{bit_and}
+use Rattle.std.proofs.lemmas.Bool.{cond-false, cond_both, ne_eqb, eqb-true, lt-ltb}
+use Rattle.std.proofs.lemmas.Nat.Bits.{bit_at_and}
+use Rattle.bus.specs.declared.frame.Frame.{Frame}
+use Rattle.bus.specs.Frames.{byte, is_command, seconds_in}
+use Rattle.station.specs.declared.event.Event.{Event}
+use Rattle.station.specs.declared.event.Event.TheVariants.{Heard, Second, Pushed}
+use Rattle.station.specs.Kinds.{Record, Outcome, from_link}
+use Rattle.module.specs.Bits.{has_bit}
+use Rattle.module.specs.Pushes.{bit}
+use Rattle.module.proofs.Bitwise.{at_place}
+use Rattle.timing.specs.declared.locking.Locking.TheVariants.{Lock, Unlock}
+use Rattle.timing.specs.Holds.{ticked}
+use Rattle.timing.specs.TimeCodes.{hold_of_code}
+use Rattle.interface.specs.declared.setup.InterfaceSetup.{InterfaceSetup}
+use Rattle.interface.specs.Interfaces.{commanded}
+use Rattle.interface.specs.Links.{link_byte, lock_for, toggle_for, asked}
+use Rattle.buttons.specs.Buttons.{variant}
+use Rattle.buttons.specs.Buttons.{design as buttons_design}
+use Rattle.kinds.specs.Kinds.{buttons_kind, EveryButtonInterface}
+use Rattle.button_laws.specs.Holding.{AsksNothing, commands, record_acts}
+use Rattle.button_laws.proofs.Holding.{hold_moves}
+use Rattle.module_laws.specs.InterfaceKeeps.{names_channel, record_asks, AsksNoHold, HoldsKept, PressedKept}
+use Rattle.laws.proofs.Bits.{bit_one}
+
+-- each of the eight bits counts
+full : (i : ℕ) → i < 8 → bit_at 255 i ≡ 1
+full zero h = refl
+full (suc zero) h = refl
+full (suc (suc zero)) h = refl
+full (suc (suc (suc zero))) h = refl
+full (suc (suc (suc (suc zero)))) h = refl
+full (suc (suc (suc (suc (suc zero))))) h = refl
+full (suc (suc (suc (suc (suc (suc zero)))))) h = refl
+full (suc (suc (suc (suc (suc (suc (suc zero))))))) h = refl
+full (suc (suc (suc (suc (suc (suc (suc (suc i)))))))) h = absurd (omega arith)
+
+-- in a byte of channel bits
+same_bit : (n channel : ℕ) → 1 ≤ channel → channel ≤ 8 → has_bit (bit_and n 0xFF) (bit channel) ≡ names_channel n channel
+same_bit n channel low high =
+    let i : ℕ = channel - 1 in
+    let within : i < 8 = omega arith in
+    let m : ℕ = n / 2 ^ i % 2 in
+    let small : min m 1 ≡ m = omega arith in
+    at_place (bit_and n 0xFF) i (eqb m 1) (bit_at_and n 255 i ∙ (ap (min m) (full i within) ∙ (small ∙ bit_one m (omega arith))))
+
+-- what is a lock or an unlock
+is_asked : (f : Frame) → is_some (commanded f) ≡ true → (is_command 0x12 5 f || is_command 0x13 2 f) ≡ true
+is_asked f e = by (is_command 0x12 5 f) (is_command 0x13 2 f) (eqb (seconds_in f) 0) e
+  where
+    by : (a b z : Bool) → is_some (cond a (cond z None (Some (Lock (seconds_in f)))) (cond b (Some Unlock) None)) ≡ true → (a || b) ≡ true
+    by true b z e = refl
+    by false true z e = refl
+    by false false z e = e
+
+nothing_commanded : (f : Frame) (channel : ℕ) → 1 ≤ channel → channel ≤ 8 → ((is_command 0x12 5 f || is_command 0x13 2 f) && names_channel (byte f 1) channel) ≡ false → commands variant f channel ≡ false
+nothing_commanded f channel low high h =
+    by (is_some (commanded f)) (is_command 0x12 5 f || is_command 0x13 2 f) (is_asked f) (names_channel (byte f 1) channel) (has_bit (bit_and (byte f 1) 0xFF) (bit channel)) (same_bit (byte f 1) channel low high) h
+  where
+    by : (asks is : Bool) → (asks ≡ true → is ≡ true) → (n m : Bool) → m ≡ n → (is && n) ≡ false → (asks && m) ≡ false
+    by false is imp n m e h = refl
+    by true is imp n m e h = e ∙ (ap (λ b. b && n) (sym (imp refl)) ∙ h)
+
+-- a code that has a time
+timed : (code : ℕ) → is_some (hold_of_code code) ≡ ltb code 252
+timed code =
+    cond_both (eqb code 0) _ _ (λ t. is_some t ≡ ltb code 252)
+    (λ e. let z : code ≡ 0 = eqb-true code 0 e in sym (lt-ltb code 252 (omega arith)))
+    (λ _. by (ltb code 252) _)
+  where
+    by : (b : Bool) (n : ℕ) → is_some (cond b (Some n) None) ≡ b
+    by true n = refl
+    by false n = refl
+
+asking : (action code : ℕ) → is_some (asked action code) ≡ cond (eqb action 3 || eqb action 4) (ltb code 252) (eqb action 5)
+asking action code = by (eqb action 3) (eqb action 4) (eqb action 5) (hold_of_code code) ∙ ap (λ t. cond (eqb action 3 || eqb action 4) t (eqb action 5)) (timed code)
+  where
+    by : (x y z : Bool) (o : Option ℕ) → is_some (cond x (lock_for o) (cond y (toggle_for o) (cond z (Some Unlock) None))) ≡ cond (x || y) (is_some o) z
+    by true y z None = refl
+    by true y z (Some t) = refl
+    by false true z None = refl
+    by false true z (Some t) = refl
+    by false false true o = refl
+    by false false false o = refl
+
+acts_same : (cells : List ℕ) (f : Frame) (channel k : ℕ) → 1 ≤ channel → channel ≤ 8 → record_acts variant cells f channel k ≡ record_asks cells f channel k
+acts_same cells f channel k low high =
+    let start : 0x0100 + 5 * k + 0 ≡ 0x0100 + 5 * k = omega arith in
+    (λ i.
+    (eqb (get_or cells (start i) 0) f.address && has_bit (link_byte cells k 1) (byte f 1))
+    && (asking (link_byte cells k 2) (link_byte cells k 3) i && same_bit (link_byte cells k 4) channel low high i))
+
+asks_nothing : (s : InterfaceSetup) (own : ℕ) (r : Record) (channel : ℕ) → 1 ≤ channel → channel ≤ 8 → (e : Event) → AsksNoHold (buttons_kind s) own r channel e → AsksNothing variant (buttons_kind s) own r channel e
+asks_nothing s own r channel low high (Heard f) h = ((λ at. nothing_commanded f channel low high (h.0 at)), (λ l k m. acts_same r.cells f channel k low high ∙ h.1 l k m))
+asks_nothing s own r channel low high Second h = tt
+asks_nothing s own r channel low high (Pushed p) h = tt
+
+pub holds_kept : EveryButtonInterface HoldsKept
+holds_kept s own r channel (Heard f) low high h = hold_moves variant s own channel low high r (Heard f) (asks_nothing s own r channel low high (Heard f) h)
+holds_kept s own r channel Second low high h =
+    hold_moves variant s own channel low high r Second tt ∙ elim h [ inl none ↦ ap ticked none ∙ sym none | inr ever ↦ ap ticked ever ∙ sym ever ]
+holds_kept s own r channel (Pushed p) low high h = hold_moves variant s own channel low high r (Pushed p) tt
+
+pub pressed_kept : EveryButtonInterface PressedKept
+pressed_kept s own r (Heard f) h =
+    let d = buttons_design s in
+    let linking : Bool = from_link (buttons_kind s) own r f in
+    let Same : Outcome → Type 0 = λ o. get_or o.after.state 3 0 ≡ get_or r.state 3 0 in
+    cond_both (eqb f.address own) _ _ Same (λ _. refl) (λ _. cond_both (eqb f.address 0) _ _ Same (λ _. refl) (λ _. cond_both linking _ _ Same (λ _. refl) (λ _. refl)))
+pressed_kept s own r Second h = refl
+pressed_kept s own r (Pushed p) h = ap (λ (o : Outcome). get_or o.after.state 3 0) (cond-false (eqb p.address own) _ _ (ne_eqb p.address own h))

@@ -1,0 +1,14 @@
+// Laws of the button interface, of the panel and of all modules in the words of their sheets, with their numbers. Each
+// stands in the contract of a function, so the crate is proved only if the law is.
+#![tactic(auto)]
+
+ghost use Rattle.kinds.specs.Kinds.{EveryButtonInterface};
+ghost use Rattle.module_laws.specs.InterfaceKeeps.{HoldsKept, PressedKept};
+
+// What alone changes the holds and the pressed buttons of a button interface.
+pub fn interface_keeping_laws() -> u8
+    ensures holds { EveryButtonInterface HoldsKept }
+    ensures pressed { EveryButtonInterface PressedKept }
+{
+    0
+}

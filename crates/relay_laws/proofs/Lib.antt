@@ -1,0 +1,6 @@
+pub mod RelayCommands
+pub mod RelayReports
+pub mod RelayListener
+pub mod RelayTimes
+pub mod RelayLayout
+mod RelayStarts

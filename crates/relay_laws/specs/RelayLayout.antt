@@ -1,0 +1,101 @@
+-- Where the pairs of a relay stand in its memory, and which cells say nothing. Assumes nothing.
+use Rattle.std.specs.Prelude.{◌≡◌, ℕ, ◌+◌, ◌*◌, ◌%◌, ◌<◌, ◌≤◌, ◌≢◌, min, max, Bool, true, false, not, ◌&&◌, ◌||◌, ◌⊎◌, ◌↔◌, List, length, ◌==◌, bit_and, slice_index}
+use Rattle.bus.specs.declared.frame.Frame.{Frame}
+use Rattle.bus.specs.Frames.{is_command}
+use Rattle.station.specs.declared.event.Event.{Event}
+use Rattle.station.specs.declared.event.Event.TheVariants.{Heard, Second, Pushed}
+use Rattle.station.specs.Kinds.{Record, Kind, from_link, links}
+use Rattle.station.specs.Rules.{later}
+use Rattle.relay.specs.declared.relay.RelaySetup.{RelaySetup}
+use Rattle.relay.specs.declared.timers.Timers.{Timers}
+use Rattle.relay.specs.Contacts.{Contact, opened, closed, running}
+use Rattle.relay.specs.Relays.{contacts}
+use Rattle.laws.specs.Channels.{ChannelNumber, index, of_channel}
+use Rattle.kinds.specs.Kinds.{relay_kind}
+
+-- where pair i of table t of a channel begins: with the address, then the button bits
+abbrev pub place : ChannelNumber → ℕ → ℕ → ℕ
+place c t i = 256 * index c + 30 * t + 2 * i
+
+-- that pair bears the sender's address and has a bit in common with the buttons just pressed
+abbrev pub pair_fits : List ℕ → ChannelNumber → Frame → ℕ → ℕ → Bool
+pair_fits cells c f t i =
+    slice_index cells (place c t i) == f.address && not (bit_and (slice_index cells (place c t i + 1)) (slice_index f.bytes 1) == 0)
+
+-- it is the first of the channel that does, but for those of table 3, which do not count
+pub record FirstFits (cells : List ℕ) (c : ChannelNumber) (f : Frame) (t i : ℕ) : Type 0 where
+  pub within : i < 15
+  pub it_fits : pair_fits cells c f t i ≡ true
+  pub none_before : (u j : ℕ) → j < 15 → (u ≢ 3) → place c u j < place c t i → pair_fits cells c f u j ≡ false
+
+-- a time brought into 1 to FFFFFE
+abbrev pub within_range : ℕ → ℕ
+within_range n = max 1 (min n 0xFFFFFE)
+
+-- a button status from a linked address, of which the first pair that fits stands in table t, makes this of the channel
+abbrev pub Table : ℕ → (Timers → Contact → Contact) → Type 0
+Table t makes =
+    (s : RelaySetup) (own : ℕ) (r : Record) (f : Frame) (c : ChannelNumber) (i : ℕ) → from_link (relay_kind s) own r f ≡ true → FirstFits r.cells c f t i →
+    of_channel c (contacts ((relay_kind s).acts own r (Heard f)).after) ≡ makes (of_channel c s.timers) (of_channel c (contacts r))
+
+-- an open channel becomes this, any other opens
+abbrev pub if_open : Contact → Contact → Contact
+if_open x opened = x
+if_open x closed = opened
+if_open x (running n) = opened
+
+-- clear, set, toggle, toggle timer 1, toggle timer 2, start timer 1, start timer 2
+pub record TablesObeyed : Type 0 where
+  pub clear : Table 0 (λ timers was. opened)
+  pub set : Table 1 (λ timers was. closed)
+  pub toggle : Table 2 (λ timers was. if_open closed was)
+  pub toggle_timer_1 : Table 4 (λ timers was. if_open (running (within_range timers.first)) was)
+  pub toggle_timer_2 : Table 5 (λ timers was. if_open (running (within_range timers.second)) was)
+  pub start_timer_1 : Table 6 (λ timers was. running (within_range timers.first))
+  pub start_timer_2 : Table 7 (λ timers was. running (within_range timers.second))
+
+-- some pair outside table 3 bears the address
+pub record SomePairBears (cells : List ℕ) (a : ℕ) : Type 0 where
+  pub channel : ChannelNumber
+  pub table : ℕ
+  pub number : ℕ
+  pub in_tables : table < 8
+  pub not_the_third : table ≢ 3
+  pub in_table : number < 15
+  pub bears : slice_index cells (place channel table number) ≡ a
+
+-- exactly then a relay links an address, if it is 1 to 254 and not its own
+abbrev pub PairsLink : Kind → Type 0
+PairsLink k =
+    (own : ℕ) (r : Record) (a : ℕ) → (links k own r a ≡ true) ↔ ((0 < a) × (a < 255) × (a ≢ own) × SomePairBears r.cells a)
+
+-- a cell that says nothing: one of table 3, cells 90 to 119 of a quarter, or one of the last sixteen of a quarter
+abbrev pub Idle : ℕ → Type 0
+Idle a = ((90 ≤ a % 256) × (a % 256 < 120)) ⊎ (240 ≤ a % 256)
+
+-- two memories of one size that differ in such cells alone
+pub record Alike (cells others : List ℕ) : Type 0 where
+  pub size : length cells ≡ length others
+  pub same : (a : ℕ) → (Idle a → ⊥) → slice_index cells a ≡ slice_index others a
+
+-- two records with such memories and the same state
+pub record AlikeRecords (r q : Record) : Type 0 where
+  pub cells : Alike r.cells q.cells
+  pub state : r.state ≡ q.state
+
+-- the event has cells sent: FD, C9 or CA at the own address
+abbrev pub reads : ℕ → Event → Bool
+reads own (Heard f) = f.address == own && (is_command 0xFD 3 f || (is_command 0xC9 3 f || is_command 0xCA 7 f))
+reads own Second = false
+reads own (Pushed p) = false
+
+-- two relays with such records link the same addresses, do and send the same on each event, but for what cells it has
+-- sent, and have such records after it
+pub record ActAlike (k : Kind) (own : ℕ) (r q : Record) : Type 0 where
+  pub linking : (a : ℕ) → links k own r a ≡ links k own q a
+  pub after : (e : Event) → AlikeRecords (k.acts own r e).after (k.acts own q e).after
+  pub sent : (e : Event) → reads own e ≡ false → (k.acts own r e).sent ≡ (k.acts own q e).sent
+
+-- so they do after any list of events
+abbrev pub IdleCellsIgnored : Kind → Type 0
+IdleCellsIgnored k = (own : ℕ) (r q : Record) → AlikeRecords r q → (es : List Event) → ActAlike k own (later k own r es) (later k own q es)
