@@ -22,11 +22,11 @@ use Rattle.relay.specs.Channels.{numbered}
 use Rattle.relay.specs.Relays.{design as relay_design}
 use Rattle.relay.specs.Tables.{pair_cell, matches, first_pair, named_in, named, in_common}
 use Rattle.laws.specs.Channels.{ChannelNumber, channel_1, channel_2, channel_3, channel_4, index, of_channel}
-use Rattle.laws.specs.Pairs.{FirstMatch}
-use Rattle.laws.proofs.Pairs.{first_pair_found, no_pair_found, first_match_obeyed}
+use Rattle.laws.specs.Pairs.{FirstMatch, NoMatch}
+use Rattle.laws.proofs.Pairs.{first_pair_found, no_pair_found, first_match_obeyed, no_match_kept}
 use Rattle.kinds.specs.Kinds.{relay_kind, EveryRelay}
 use Rattle.relay_laws.proofs.RelayReports.{no_memory}
-use Rattle.relay_laws.specs.RelayLayout.{place, pair_fits, FirstFits, within_range, Table, if_open, TablesObeyed, SomePairBears, PairsLink, Idle, Alike, AlikeRecords, reads, ActAlike, IdleCellsIgnored}
+use Rattle.relay_laws.specs.RelayLayout.{place, pair_fits, FirstFits, within_range, becomes, Row, NoneFits, be_open, be_closed, run_timer_1, run_timer_2, ActionsObeyed, SomePairBears, PairsLink, Idle, Alike, AlikeRecords, reads, ActAlike, IdleCellsIgnored}
 
 -- a pair of the definitions is one of a table
 counted : (c : ChannelNumber) (t i : ℕ) → pair_cell (index c) (15 * t + i) ≡ place c t i
@@ -36,6 +36,12 @@ match_of : (cells : List ℕ) (c : ChannelNumber) (f : Frame) (t i : ℕ) → i 
 match_of cells c f t i l d =
     let other : not (eqb ((15 * t + i) / 15) 3) ≡ true = ap not (ne_eqb ((15 * t + i) / 15) 3 (λ e. d (omega arith))) in
     (λ j. other j && (eqb (get_or cells (counted c t i j) 0) f.address && in_common (Some (byte f 1)) (get_or cells (counted c t i j + 1) 0)))
+
+-- table 3 fits nothing
+skipped : (cells : List ℕ) (c : ChannelNumber) (f : Frame) (q : ℕ) → q / 15 ≡ 3 → matches cells (index c) (query f) q ≡ false
+skipped cells c f q three =
+    ap (λ b. not b && (eqb (get_or cells (pair_cell (index c) q) 0) f.address && in_common (Some (byte f 1)) (get_or cells (pair_cell (index c) q + 1) 0)))
+    (eq-eqb (q / 15) 3 three)
 
 first_match : (cells : List ℕ) (c : ChannelNumber) (f : Frame) (t i : ℕ) → t < 8 → (t ≢ 3) → FirstFits cells c f t i → FirstMatch cells (index c) (query f) (15 * t + i)
 first_match cells c f t i l d h =
@@ -50,7 +56,7 @@ first_match cells c f t i l d h =
     before q m =
         let whole : q ≡ 15 * (q / 15) + q % 15 = omega arith in
         elim (cases_eq (q / 15) 3) [
-          | inl three ↦ ap (λ b. not b && (eqb (get_or cells (pair_cell (index c) q) 0) f.address && in_common (Some (byte f 1)) (get_or cells (pair_cell (index c) q + 1) 0))) (eq-eqb (q / 15) 3 three)
+          | inl three ↦ skipped cells c f q three
           | inr other ↦
               ap (matches cells (index c) (query f)) whole
               ∙ (match_of cells c f (q / 15) (q % 15) (omega arith) other ∙ h.none_before (q / 15) (q % 15) (omega arith) other (omega arith))
@@ -63,36 +69,61 @@ asked_at t n =
     (cond (eqb n 1) Set
     (cond (eqb n 2) Toggle (cond (eqb n 4) (ToggleTimer t.first) (cond (eqb n 5) (ToggleTimer t.second) (cond (eqb n 6) (Start t.first) (Start t.second))))))
 
-toggled : (x : Contact) → obeyed Toggle x ≡ if_open closed x
-toggled opened = refl
-toggled closed = refl
-toggled (running n) = refl
+-- in each of the three states
+cleared : (t : Timers) (x : Contact) → obeyed Clear x ≡ becomes be_open be_open be_open t x
+cleared t opened = refl
+cleared t closed = refl
+cleared t (running n) = refl
 
-timer_toggled : (t : ℕ) (x : Contact) → obeyed (ToggleTimer t) x ≡ if_open (running (within_range t)) x
-timer_toggled t opened = refl
-timer_toggled t closed = refl
-timer_toggled t (running n) = refl
+closed_by_set : (t : Timers) (x : Contact) → obeyed Set x ≡ becomes be_closed be_closed be_closed t x
+closed_by_set t opened = refl
+closed_by_set t closed = refl
+closed_by_set t (running n) = refl
 
-table_obeyed : (t : ℕ) → t < 8 → (t ≢ 3) → Table t (λ timers was. obeyed (asked_at timers t) was)
-table_obeyed t l d s own r f c i linked h =
+toggled : (t : Timers) (x : Contact) → obeyed Toggle x ≡ becomes be_closed be_open be_open t x
+toggled t opened = refl
+toggled t closed = refl
+toggled t (running n) = refl
+
+timer_toggled : (which : Timers → ℕ) (t : Timers) (x : Contact) → obeyed (ToggleTimer (which t)) x ≡ becomes (λ t. running (within_range (which t))) be_open be_open t x
+timer_toggled which t opened = refl
+timer_toggled which t closed = refl
+timer_toggled which t (running n) = refl
+
+timer_started : (which : Timers → ℕ) (t : Timers) (x : Contact) →
+    obeyed (Start (which t)) x ≡ becomes (λ t. running (within_range (which t))) (λ t. running (within_range (which t))) (λ t. running (within_range (which t))) t x
+timer_started which t opened = refl
+timer_started which t closed = refl
+timer_started which t (running n) = refl
+
+-- a row, from what the definitions make of the three states
+row_obeyed : (t : ℕ) (o c r : Timers → Contact) → t < 8 → (t ≢ 3) → ((timers : Timers) (x : Contact) → obeyed (asked_at timers t) x ≡ becomes o c r timers x) → Row t o c r
+row_obeyed t from_open from_closed from_running l d same s own r f c i linked h =
     let p : ℕ = 15 * t + i in
     let within : i < 15 = h.within in
     let number : p / 15 ≡ t = omega arith in
     first_match_obeyed s own r f linked c p (first_match r.cells c f t i l d h)
-    ∙ ap (λ n. obeyed (asked_at (of_channel c s.timers) n) (of_channel c (contacts r))) number
+    ∙ (ap (λ n. obeyed (asked_at (of_channel c s.timers) n) (of_channel c (contacts r))) number ∙ same (of_channel c s.timers) (of_channel c (contacts r)))
 
-pub tables_obeyed : TablesObeyed
-tables_obeyed =
+none_match : (cells : List ℕ) (c : ChannelNumber) (f : Frame) → NoneFits cells c f → NoMatch cells (index c) (query f)
+none_match cells c f h q l =
+    let whole : q ≡ 15 * (q / 15) + q % 15 = omega arith in
+    elim (cases_eq (q / 15) 3) [
+      | inl three ↦ skipped cells c f q three
+      | inr other ↦ ap (matches cells (index c) (query f)) whole ∙ (match_of cells c f (q / 15) (q % 15) (omega arith) other ∙ h (q / 15) (q % 15) (omega arith) other (omega arith))
+    ]
+
+pub actions_obeyed : ActionsObeyed
+actions_obeyed =
     record {
-      clear = table_obeyed 0 (omega arith) (λ e. absurd (omega arith));
-      set = table_obeyed 1 (omega arith) (λ e. absurd (omega arith));
-      toggle = λ s own r f c i l h. table_obeyed 2 (omega arith) (λ e. absurd (omega arith)) s own r f c i l h ∙ toggled (of_channel c (contacts r));
-      toggle_timer_1 = λ s own r f c i l h.
-          table_obeyed 4 (omega arith) (λ e. absurd (omega arith)) s own r f c i l h ∙ timer_toggled (of_channel c s.timers).first (of_channel c (contacts r));
-      toggle_timer_2 = λ s own r f c i l h.
-          table_obeyed 5 (omega arith) (λ e. absurd (omega arith)) s own r f c i l h ∙ timer_toggled (of_channel c s.timers).second (of_channel c (contacts r));
-      start_timer_1 = table_obeyed 6 (omega arith) (λ e. absurd (omega arith));
-      start_timer_2 = table_obeyed 7 (omega arith) (λ e. absurd (omega arith));
+      clear = row_obeyed 0 be_open be_open be_open (omega arith) (λ e. absurd (omega arith)) cleared;
+      set = row_obeyed 1 be_closed be_closed be_closed (omega arith) (λ e. absurd (omega arith)) closed_by_set;
+      toggle = row_obeyed 2 be_closed be_open be_open (omega arith) (λ e. absurd (omega arith)) toggled;
+      toggle_timer_1 = row_obeyed 4 run_timer_1 be_open be_open (omega arith) (λ e. absurd (omega arith)) (timer_toggled (λ t. t.first));
+      toggle_timer_2 = row_obeyed 5 run_timer_2 be_open be_open (omega arith) (λ e. absurd (omega arith)) (timer_toggled (λ t. t.second));
+      start_timer_1 = row_obeyed 6 run_timer_1 run_timer_1 run_timer_1 (omega arith) (λ e. absurd (omega arith)) (timer_started (λ t. t.first));
+      start_timer_2 = row_obeyed 7 run_timer_2 run_timer_2 run_timer_2 (omega arith) (λ e. absurd (omega arith)) (timer_started (λ t. t.second));
+      no_pair = λ s own r f c linked h. no_match_kept s own r f linked c (none_match r.cells c f h);
     }
 
 -- whom a pair links

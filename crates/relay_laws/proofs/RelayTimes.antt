@@ -1,5 +1,5 @@
 -- A time runs on while nothing is asked of the channel. Assumes nothing.
-use Rattle.std.proofs.Common.{◌≡◌, ℕ, ◌-◌, ◌<◌, Bool, true, false, cond, not, ◌&&◌, ◌||◌, eqb, List, [], ◌∷◌, ◌++◌, None, sym, refl, ap, ◌∙◌, subst, inl, inr, arith}
+use Rattle.std.proofs.Common.{◌≡◌, ℕ, zero, suc, ◌-◌, ◌<◌, Bool, true, false, cond, not, ◌&&◌, ◌||◌, eqb, List, [], ◌∷◌, ◌++◌, None, sym, refl, ap, ◌∙◌, subst, inl, inr, arith}
 use Rattle.std.specs.List.{AllByRecursion}
 use Rattle.std.proofs.ByRecursion.{All-append}
 use Rattle.std.proofs.lemmas.Bool.{cond-false, cond_both, and_cases, and_right, or_parts, ne_eqb, eqb-true, both_ways, false≢true}
@@ -28,7 +28,7 @@ use Rattle.kinds.specs.Kinds.{relay_kind, EveryRelay}
 use Rattle.relay_laws.specs.RelayCommands.{is_named}
 use Rattle.relay_laws.specs.RelayReports.{bit_of, channel_status, fits}
 use Rattle.relay_laws.specs.RelayListener.{sent_over}
-use Rattle.relay_laws.specs.RelayTimes.{AsksNothing, NoneAsks, seconds_among, has_channel, IsIn, TellsNoEnd, TellsEnd, TimesRun}
+use Rattle.relay_laws.specs.RelayTimes.{AsksNothing, NoneAsks, seconds_among, has_channel, IsIn, TellsNoEnd, TellsEnd, TimesRun, ChannelsStay}
 use Rattle.relay_laws.proofs.RelayCommands.{named, asks_none, unnamed_kept}
 use Rattle.relay_laws.proofs.RelayReports.{pair_found}
 use Rattle.relay_laws.proofs.RelayListener.{Bits, bits}
@@ -286,3 +286,14 @@ times_run s own r c n es p e h =
           let one : n - k ≡ 1 = omega arith in
           end_told s own c (later (relay_kind s) own r es) (ran.before (omega arith) ∙ ap running one);
     }
+
+-- seconds make nothing of a channel without a time
+without_time : (k : ℕ) (x : Contact) → ticked x ≡ x → ticked_for k x ≡ x
+without_time zero x h = refl
+without_time (suc k) x h = ap (ticked_for k) h ∙ without_time k x h
+
+pub channels_stay : EveryRelay ChannelsStay
+channels_stay s own r c x es sort e h =
+    let k : ℕ = seconds_among es in
+    let still : ticked x ≡ x = elim sort [ inl o ↦ ap ticked o ∙ sym o | inr o ↦ ap ticked o ∙ sym o ] in
+    later_channel s own c r es h ∙ (ap (ticked_for k) e ∙ without_time k x still)

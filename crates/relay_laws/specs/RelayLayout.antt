@@ -32,27 +32,47 @@ pub record FirstFits (cells : List ℕ) (c : ChannelNumber) (f : Frame) (t i : �
 abbrev pub within_range : ℕ → ℕ
 within_range n = max 1 (min n 0xFFFFFE)
 
--- a button status from a linked address, of which the first pair that fits stands in table t, makes this of the channel
-abbrev pub Table : ℕ → (Timers → Contact → Contact) → Type 0
-Table t makes =
+-- what becomes of an open channel, of a closed one and of a running one, by the timers of the channel
+abbrev pub becomes : (Timers → Contact) → (Timers → Contact) → (Timers → Contact) → Timers → Contact → Contact
+becomes from_open from_closed from_running timers opened = from_open timers
+becomes from_open from_closed from_running timers closed = from_closed timers
+becomes from_open from_closed from_running timers (running n) = from_running timers
+
+-- that becomes of a channel on a button status from a linked address of which the first pair that fits stands in table t
+abbrev pub Row : ℕ → (Timers → Contact) → (Timers → Contact) → (Timers → Contact) → Type 0
+Row t from_open from_closed from_running =
     (s : RelaySetup) (own : ℕ) (r : Record) (f : Frame) (c : ChannelNumber) (i : ℕ) → from_link (relay_kind s) own r f ≡ true → FirstFits r.cells c f t i →
-    of_channel c (contacts ((relay_kind s).acts own r (Heard f)).after) ≡ makes (of_channel c s.timers) (of_channel c (contacts r))
+    of_channel c (contacts ((relay_kind s).acts own r (Heard f)).after) ≡ becomes from_open from_closed from_running (of_channel c s.timers) (of_channel c (contacts r))
 
--- an open channel becomes this, any other opens
-abbrev pub if_open : Contact → Contact → Contact
-if_open x opened = x
-if_open x closed = opened
-if_open x (running n) = opened
+-- no pair of the channel fits
+abbrev pub NoneFits : List ℕ → ChannelNumber → Frame → Type 0
+NoneFits cells c f = (t i : ℕ) → t < 8 → (t ≢ 3) → i < 15 → pair_fits cells c f t i ≡ false
 
--- clear, set, toggle, toggle timer 1, toggle timer 2, start timer 1, start timer 2
-pub record TablesObeyed : Type 0 where
-  pub clear : Table 0 (λ timers was. opened)
-  pub set : Table 1 (λ timers was. closed)
-  pub toggle : Table 2 (λ timers was. if_open closed was)
-  pub toggle_timer_1 : Table 4 (λ timers was. if_open (running (within_range timers.first)) was)
-  pub toggle_timer_2 : Table 5 (λ timers was. if_open (running (within_range timers.second)) was)
-  pub start_timer_1 : Table 6 (λ timers was. running (within_range timers.first))
-  pub start_timer_2 : Table 7 (λ timers was. running (within_range timers.second))
+-- to be open, to be closed, and to run for timer 1 and for timer 2, whatever the timers are
+abbrev pub be_open : Timers → Contact
+be_open timers = opened
+
+abbrev pub be_closed : Timers → Contact
+be_closed timers = closed
+
+abbrev pub run_timer_1 : Timers → Contact
+run_timer_1 timers = running (within_range timers.first)
+
+abbrev pub run_timer_2 : Timers → Contact
+run_timer_2 timers = running (within_range timers.second)
+
+-- by table, what becomes of an open, a closed and a running channel; where no pair fits, the channel stays
+pub record ActionsObeyed : Type 0 where
+  pub clear : Row 0 be_open be_open be_open
+  pub set : Row 1 be_closed be_closed be_closed
+  pub toggle : Row 2 be_closed be_open be_open
+  pub toggle_timer_1 : Row 4 run_timer_1 be_open be_open
+  pub toggle_timer_2 : Row 5 run_timer_2 be_open be_open
+  pub start_timer_1 : Row 6 run_timer_1 run_timer_1 run_timer_1
+  pub start_timer_2 : Row 7 run_timer_2 run_timer_2 run_timer_2
+  pub no_pair :
+      (s : RelaySetup) (own : ℕ) (r : Record) (f : Frame) (c : ChannelNumber) → from_link (relay_kind s) own r f ≡ true → NoneFits r.cells c f →
+      of_channel c (contacts ((relay_kind s).acts own r (Heard f)).after) ≡ of_channel c (contacts r)
 
 -- some pair outside table 3 bears the address
 pub record SomePairBears (cells : List ℕ) (a : ℕ) : Type 0 where

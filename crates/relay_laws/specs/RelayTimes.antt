@@ -7,7 +7,7 @@ use Rattle.station.specs.declared.event.Event.{Event}
 use Rattle.station.specs.declared.event.Event.TheVariants.{Heard, Second, Pushed}
 use Rattle.station.specs.Kinds.{Record, Kind, from_link}
 use Rattle.station.specs.Rules.{later}
-use Rattle.relay.specs.Contacts.{opened, running}
+use Rattle.relay.specs.Contacts.{Contact, opened, closed, running}
 use Rattle.relay.specs.Relays.{contacts}
 use Rattle.laws.specs.Channels.{ChannelNumber, of_channel}
 use Rattle.relay_laws.specs.RelayCommands.{is_named}
@@ -71,3 +71,9 @@ abbrev pub TimesRun : Kind → Type 0
 TimesRun k =
     (own : ℕ) (r : Record) (c : ChannelNumber) (n : ℕ) (es : List Event) → 0 < n → of_channel c (contacts r) ≡ running n → NoneAsks k own c r es →
     TimeRuns k own r c n es
+
+-- a channel that is open, or closed without a time, stays so over any list of events that ask nothing of it
+abbrev pub ChannelsStay : Kind → Type 0
+ChannelsStay k =
+    (own : ℕ) (r : Record) (c : ChannelNumber) (x : Contact) (es : List Event) → (x ≡ opened) ⊎ (x ≡ closed) → of_channel c (contacts r) ≡ x → NoneAsks k own c r es →
+    of_channel c (contacts (later k own r es)) ≡ x

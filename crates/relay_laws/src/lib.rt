@@ -4,11 +4,11 @@
 
 ghost use Rattle.kinds.specs.Kinds.{EveryRelay};
 ghost use Rattle.relay_laws.specs.RelayCommands.{CommandsObeyed};
-ghost use Rattle.relay_laws.specs.RelayLayout.{TablesObeyed, PairsLink, IdleCellsIgnored};
+ghost use Rattle.relay_laws.specs.RelayLayout.{ActionsObeyed, PairsLink, IdleCellsIgnored};
 ghost use Rattle.relay_laws.specs.RelayListener.{ListenersAreRight};
 ghost use Rattle.relay_laws.specs.RelayReports.{ReportsExactly};
 ghost use Rattle.relay_laws.specs.RelayStarts.{TimesStarted};
-ghost use Rattle.relay_laws.specs.RelayTimes.{TimesRun};
+ghost use Rattle.relay_laws.specs.RelayTimes.{TimesRun, ChannelsStay};
 
 // What the commands 01, 02 and 03 make of the channels of a relay.
 pub fn relay_command_laws() -> u8
@@ -34,6 +34,7 @@ pub fn relay_listener_laws() -> u8
 // How long a channel runs while nothing is asked of it.
 pub fn relay_time_laws() -> u8
     ensures times { EveryRelay TimesRun }
+    ensures stays { EveryRelay ChannelsStay }
     ensures starts { TimesStarted }
 {
     0
@@ -41,7 +42,7 @@ pub fn relay_time_laws() -> u8
 
 // Where the pairs of a relay stand, what they ask for and whom they link, and which cells have no influence.
 pub fn relay_layout_laws() -> u8
-    ensures tables { TablesObeyed }
+    ensures actions { ActionsObeyed }
     ensures links { EveryRelay PairsLink }
     ensures idle_cells { EveryRelay IdleCellsIgnored }
 {
