@@ -4,3 +4,4 @@ pub mod RelayListener
 pub mod RelayTimes
 pub mod RelayLayout
 mod RelayStarts
+mod RelayExamples

@@ -1,5 +1,6 @@
 -- Where the pairs of a relay stand in its memory, and which cells say nothing. Assumes nothing.
 use Rattle.std.proofs.Common.{◌≡◌, ℕ, zero, suc, ◌+◌, ◌*◌, ◌/◌, ◌%◌, ◌<◌, ◌≤◌, ◌≢◌, Bool, true, false, cond, not, ◌&&◌, ◌||◌, eqb, ltb, leb, List, [], ◌∷◌, ◌++◌, length, get_or, set, is_some, Some, None, Option, sym, refl, ap, ◌∙◌, subst, inl, inr, length-set, arith}
+use lib.Bits.{bit_and}
 use Rattle.std.proofs.lemmas.List.{get_or-set_same, get_or-set_other}
 use Rattle.std.proofs.lemmas.Bool.{cond-true, cond-false, cond_both, and_parts, and_from, or_parts, or_cases, or_left, or_right, eqb-true, eq-eqb, ne_eqb, ltb-true, lt-ltb, leb-true, both_ways, cases_eq, not-true, false≢true}
 use Rattle.bus.specs.declared.frame.Frame.{Frame}
@@ -25,6 +26,7 @@ use Rattle.laws.specs.Channels.{ChannelNumber, channel_1, channel_2, channel_3, 
 use Rattle.laws.specs.Pairs.{FirstMatch, NoMatch}
 use Rattle.laws.proofs.Pairs.{first_pair_found, no_pair_found, first_match_obeyed, no_match_kept}
 use Rattle.kinds.specs.Kinds.{relay_kind, EveryRelay}
+use Rattle.relay_laws.specs.RelayReports.{fits}
 use Rattle.relay_laws.proofs.RelayReports.{no_memory}
 use Rattle.relay_laws.specs.RelayLayout.{place, pair_fits, FirstFits, within_range, becomes, Row, NoneFits, be_open, be_closed, run_timer_1, run_timer_2, ActionsObeyed, SomePairBears, PairsLink, Idle, Alike, AlikeRecords, reads, ActAlike, IdleCellsIgnored}
 
@@ -36,6 +38,12 @@ match_of : (cells : List ℕ) (c : ChannelNumber) (f : Frame) (t i : ℕ) → i 
 match_of cells c f t i l d =
     let other : not (eqb ((15 * t + i) / 15) 3) ≡ true = ap not (ne_eqb ((15 * t + i) / 15) 3 (λ e. d (omega arith))) in
     (λ j. other j && (eqb (get_or cells (counted c t i j) 0) f.address && in_common (Some (byte f 1)) (get_or cells (counted c t i j + 1) 0)))
+
+-- the pair by its number among the 120 of its channel
+pub fits_in_table : (cells : List ℕ) (c : ChannelNumber) (f : Frame) (t i : ℕ) → i < 15 → (t ≢ 3) → fits cells c f (15 * t + i) ≡ pair_fits cells c f t i
+fits_in_table cells c f t i l d =
+    let other : not (eqb ((15 * t + i) / 15) 3) ≡ true = ap not (ne_eqb ((15 * t + i) / 15) 3 (λ e. d (omega arith))) in
+    (λ j. other j && (eqb (get_or cells (counted c t i j) 0) f.address && not (eqb (bit_and (get_or cells (counted c t i j + 1) 0) (byte f 1)) 0)))
 
 -- table 3 fits nothing
 skipped : (cells : List ℕ) (c : ChannelNumber) (f : Frame) (q : ℕ) → q / 15 ≡ 3 → matches cells (index c) (query f) q ≡ false

@@ -4,6 +4,8 @@
 
 ghost use Rattle.kinds.specs.Kinds.{EveryRelay};
 ghost use Rattle.relay_laws.specs.RelayCommands.{CommandsObeyed};
+ghost use Rattle.relay.specs.declared.relay.RelaySetup.{RelaySetup};
+ghost use Rattle.relay_laws.specs.RelayExamples.{PairsFit, CommandsAsk, AsksOrNot};
 ghost use Rattle.relay_laws.specs.RelayLayout.{ActionsObeyed, PairsLink, IdleCellsIgnored};
 ghost use Rattle.relay_laws.specs.RelayListener.{ListenersAreRight};
 ghost use Rattle.relay_laws.specs.RelayReports.{ReportsExactly};
@@ -45,6 +47,15 @@ pub fn relay_layout_laws() -> u8
     ensures actions { ActionsObeyed }
     ensures links { EveryRelay PairsLink }
     ensures idle_cells { EveryRelay IdleCellsIgnored }
+{
+    0
+}
+
+// For each condition of these laws, what meets it and what does not.
+pub fn relay_conditions_are_met() -> u8
+    ensures pairs { (s : RelaySetup) → PairsFit s }
+    ensures commands { CommandsAsk }
+    ensures asks { (s : RelaySetup) → AsksOrNot s }
 {
     0
 }

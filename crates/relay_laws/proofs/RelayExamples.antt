@@ -1,0 +1,85 @@
+-- The examples are what is said of them. Assumes nothing.
+use Rattle.std.proofs.Common.{◌≡◌, ℕ, zero, suc, ◌+◌, ◌*◌, ◌<◌, ◌≤◌, ◌≢◌, Bool, true, false, List, [], ◌∷◌, get_or, set, is_some, Some, None, Option, cond, refl, sym, ap, ◌∙◌, subst, inl, inr, length-set, arith}
+use Rattle.std.proofs.lemmas.Bool.{cond-true, cond-false, cases_Bool, cases_eq, false≢true, true≢false}
+use Rattle.std.proofs.lemmas.List.{get_or-set_other}
+use Rattle.bus.specs.declared.frame.Frame.{Frame}
+use Rattle.station.specs.declared.edge.Edge.TheVariants.{Press}
+use Rattle.station.specs.declared.event.Event.{Event}
+use Rattle.station.specs.declared.event.Event.TheVariants.{Heard, Second, Pushed}
+use Rattle.station.specs.Kinds.{Record, from_link}
+use Rattle.station.specs.Rules.{later}
+use Rattle.module.specs.Searches.{first}
+use Rattle.relay.specs.declared.relay.RelaySetup.{RelaySetup}
+use Rattle.laws.specs.Channels.{ChannelNumber, channel_1, channel_2}
+use Rattle.kinds.specs.Kinds.{relay_kind}
+use Rattle.relay_laws.specs.RelayLayout.{place, pair_fits, FirstFits, NoneFits}
+use Rattle.relay_laws.specs.RelayReports.{fits}
+use Rattle.relay_laws.specs.RelayExamples.{linked, idly_changed, pressed, PairsFit, CommandsAsk, AsksOrNot}
+use Rattle.relay_laws.proofs.RelayLayout.{fits_in_table}
+
+-- of n numbers from i on none passes a test, if none is found
+none_of : (t : ℕ → Bool) (i n : ℕ) → first t i n ≡ None → (k : ℕ) → i ≤ k → k < i + n → t k ≡ false
+unfolding first
+none_of t i zero h k low high = absurd (omega arith)
+none_of t i (suc n) h k low high =
+    elim (cases_Bool (t i)) [
+      | inl e ↦ absurd (true≢false (ap is_some (sym (cond-true (t i) (Some i) (first t (suc i) n) e) ∙ h)))
+      | inr e ↦
+          elim (cases_eq i k) [
+            | inl same ↦ ap t (sym same) ∙ e
+            | inr other ↦ none_of t (suc i) n (sym (cond-false (t i) (Some i) (first t (suc i) n) e) ∙ h) k (omega (arith, other)) (omega arith)
+          ]
+    ]
+
+none_fit : (c : ChannelNumber) (n : ℕ) → first (fits linked.cells c (pressed 0x20 1)) 0 n ≡ None → (q : ℕ) → q < n → fits linked.cells c (pressed 0x20 1) q ≡ false
+none_fit c n h q l = none_of (fits linked.cells c (pressed 0x20 1)) 0 n h q (omega arith) (omega arith)
+
+pub pairs_fit : (s : RelaySetup) → PairsFit s
+unfolding first
+pairs_fit s =
+    record {
+      link = refl;
+      fits = record {
+        within = omega arith;
+        it_fits = refl;
+        none_before = λ u j l d m. sym (fits_in_table linked.cells channel_1 (pressed 0x20 1) u j l d) ∙ none_fit channel_1 75 refl (15 * u + j) (omega arith);
+      };
+      obeyed = record { in_table = omega arith; it_fits = refl; none_before = λ p l. none_fit channel_1 75 refl p l };
+      none = λ t i l d m. sym (fits_in_table linked.cells channel_2 (pressed 0x20 1) t i m d) ∙ none_fit channel_2 120 refl (15 * t + i) (omega arith);
+      none_obeyed = λ p l. none_fit channel_2 120 refl p l;
+      other_button = λ h. false≢true h.it_fits;
+      other_pair = λ h. false≢true h.it_fits;
+      bears = record { channel = channel_1; table = 5; number = 0; in_tables = omega arith; not_the_third = λ e. omega arith; in_table = omega arith; bears = refl };
+      alike = record {
+        cells = record {
+          size = sym (length-set linked.cells 0x005A 0x33);
+          same = λ a busy.
+              let other : a ≢ 0x005A = λ e. busy (inl (omega arith, omega arith)) in
+              sym (get_or-set_other linked.cells 0x005A a 0x33 0 other);
+        };
+        state = refl;
+      };
+    }
+
+pub commands_ask : CommandsAsk
+commands_ask = record { opens = (refl, refl); runs = (refl, refl); high_bits = (refl, refl); not_the_first = λ h. false≢true h.1 }
+
+pub asks_or_not : (s : RelaySetup) → AsksOrNot s
+unfolding first
+asks_or_not s =
+    record {
+      runs = refl;
+      rests = refl;
+      nothing = (
+        tt,
+        (
+          tt,
+          (
+            ((λ e. absurd (omega (arith, e))), (λ _ q l. none_fit channel_2 120 refl q l)),
+            (((λ _. refl), (λ l. absurd (false≢true l))), (((λ e. absurd (omega (arith, e))), (λ l. absurd (false≢true l))), tt)),
+          ),
+        ),
+      );
+      command = λ n. true≢false (n.1.0.0 refl);
+      link = λ n. true≢false (n.1.0.1 refl 75 (omega arith));
+    }
