@@ -1,20 +1,12 @@
 -- The examples are what is said of them. Assumes nothing.
-use Rattle.std.proofs.Common.{◌≡◌, ℕ, zero, suc, ◌+◌, ◌*◌, ◌<◌, ◌≤◌, ◌≢◌, Bool, true, false, List, [], ◌∷◌, get_or, set, is_some, Some, None, Option, cond, refl, sym, ap, ◌∙◌, subst, inl, inr, length-set, arith}
+use Rattle.std.proofs.Common.{◌≡◌, ℕ, zero, suc, ◌+◌, ◌*◌, ◌<◌, ◌≤◌, ◌≢◌, Bool, false, is_some, Some, None, refl, sym, ap, ◌∙◌, inl, inr, length-set, arith}
 use Rattle.std.proofs.lemmas.Bool.{cond-true, cond-false, cases_Bool, cases_eq, false≢true, true≢false}
 use Rattle.std.proofs.lemmas.List.{get_or-set_other}
-use Rattle.bus.specs.declared.frame.Frame.{Frame}
-use Rattle.station.specs.declared.edge.Edge.TheVariants.{Press}
-use Rattle.station.specs.declared.event.Event.{Event}
-use Rattle.station.specs.declared.event.Event.TheVariants.{Heard, Second, Pushed}
-use Rattle.station.specs.Kinds.{Record, from_link}
-use Rattle.station.specs.Rules.{later}
 use Rattle.module.specs.Searches.{first}
 use Rattle.relay.specs.declared.relay.RelaySetup.{RelaySetup}
 use Rattle.laws.specs.Channels.{ChannelNumber, channel_1, channel_2}
-use Rattle.kinds.specs.Kinds.{relay_kind}
-use Rattle.relay_laws.specs.RelayLayout.{place, pair_fits, FirstFits, NoneFits}
 use Rattle.relay_laws.specs.RelayReports.{fits}
-use Rattle.relay_laws.specs.RelayExamples.{linked, idly_changed, pressed, PairsFit, CommandsAsk, AsksOrNot}
+use Rattle.relay_laws.specs.RelayExamples.{linked, pressed, PairsFit, CommandsAsk, AsksOrNot}
 use Rattle.relay_laws.proofs.RelayLayout.{fits_in_table}
 
 -- of n numbers from i on none passes a test, if none is found

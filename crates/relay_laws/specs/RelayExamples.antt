@@ -1,5 +1,5 @@
 -- For each condition of the laws of a relay, what meets it and what does not. Assumes nothing.
-use Rattle.std.specs.Prelude.{◌≡◌, ℕ, true, List, [], ◌∷◌, ◌++◌, replicate, None, Some}
+use Rattle.std.specs.Prelude.{◌≡◌, ℕ, true, [], ◌∷◌, ◌++◌, replicate, None, Some}
 use Rattle.bus.specs.declared.frame.Frame.{Frame}
 use Rattle.bus.specs.Frames.{message}
 use Rattle.station.specs.declared.edge.Edge.TheVariants.{Press}
@@ -9,7 +9,7 @@ use Rattle.station.specs.Rules.{put}
 use Rattle.relay.specs.declared.relay.RelaySetup.{RelaySetup}
 use Rattle.relay.specs.Contacts.{opened, running}
 use Rattle.relay.specs.Relays.{contacts}
-use Rattle.laws.specs.Channels.{ChannelNumber, channel_1, channel_2, of_channel}
+use Rattle.laws.specs.Channels.{channel_1, channel_2, of_channel}
 use Rattle.kinds.specs.Kinds.{relay_kind}
 use Rattle.relay_laws.specs.RelayCommands.{Asks}
 use Rattle.relay_laws.specs.RelayLayout.{FirstFits, NoneFits, SomePairBears, AlikeRecords}
