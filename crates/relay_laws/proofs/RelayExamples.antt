@@ -7,24 +7,23 @@ use Rattle.relay.specs.declared.relay.RelaySetup.{RelaySetup}
 use Rattle.laws.specs.Channels.{ChannelNumber, channel_1, channel_2}
 use Rattle.relay_laws.specs.RelayReports.{fits}
 use Rattle.relay_laws.specs.RelayExamples.{linked, pressed, PairsFit, CommandsAsk, AsksOrNot}
+use Rattle.laws.specs.Pairs.{FirstMatch, NoMatch}
+use Rattle.laws.proofs.Pairs.{first_pair_found, no_pair_found}
+use Rattle.relay.specs.declared.query.Query.{Query}
+use Rattle.relay.specs.Relays.{query}
 use Rattle.relay_laws.proofs.RelayLayout.{fits_in_table}
 
--- of n numbers from i on none passes a test, if none is found
-none_of : (t : ℕ → Bool) (i n : ℕ) → first t i n ≡ None → (k : ℕ) → i ≤ k → k < i + n → t k ≡ false
-unfolding first
-none_of t i zero h k low high = absurd (omega arith)
-none_of t i (suc n) h k low high =
-    elim (cases_Bool (t i)) [
-      | inl e ↦ absurd (true≢false (ap is_some (sym (cond-true (t i) (Some i) (first t (suc i) n) e) ∙ h)))
-      | inr e ↦
-          elim (cases_eq i k) [
-            | inl same ↦ ap t (sym same) ∙ e
-            | inr other ↦ none_of t (suc i) n (sym (cond-false (t i) (Some i) (first t (suc i) n) e) ∙ h) k (omega (arith, other)) (omega arith)
-          ]
-    ]
+-- the first pair of channel 1 that fits, and none of channel 2
+abbrev asked : Query
+asked = query (pressed 0x20 1)
 
-none_fit : (c : ChannelNumber) (n : ℕ) → first (fits linked.cells c (pressed 0x20 1)) 0 n ≡ None → (q : ℕ) → q < n → fits linked.cells c (pressed 0x20 1) q ≡ false
-none_fit c n h q l = none_of (fits linked.cells c (pressed 0x20 1)) 0 n h q (omega arith) (omega arith)
+found : FirstMatch linked.cells 0 asked 75
+unfolding first
+found = (first_pair_found linked.cells 0 asked 75).0 refl
+
+none_found : NoMatch linked.cells 1 asked
+unfolding first
+none_found = (no_pair_found linked.cells 1 asked).0 refl
 
 pub pairs_fit : (s : RelaySetup) → PairsFit s
 unfolding first
@@ -34,11 +33,11 @@ pairs_fit s =
       fits = record {
         within = omega arith;
         it_fits = refl;
-        none_before = λ u j l d m. sym (fits_in_table linked.cells channel_1 (pressed 0x20 1) u j l d) ∙ none_fit channel_1 75 refl (15 * u + j) (omega arith);
+        none_before = λ u j l d m. sym (fits_in_table linked.cells channel_1 (pressed 0x20 1) u j l d) ∙ found.earlier (15 * u + j) (omega arith);
       };
-      obeyed = record { in_table = omega arith; it_fits = refl; none_before = λ p l. none_fit channel_1 75 refl p l };
-      none = λ t i l d m. sym (fits_in_table linked.cells channel_2 (pressed 0x20 1) t i m d) ∙ none_fit channel_2 120 refl (15 * t + i) (omega arith);
-      none_obeyed = λ p l. none_fit channel_2 120 refl p l;
+      obeyed = record { in_table = omega arith; it_fits = refl; none_before = found.earlier };
+      none = λ t i l d m. sym (fits_in_table linked.cells channel_2 (pressed 0x20 1) t i m d) ∙ none_found (15 * t + i) (omega arith);
+      none_obeyed = none_found;
       other_button = λ h. false≢true h.it_fits;
       other_pair = λ h. false≢true h.it_fits;
       bears = record { channel = channel_1; table = 5; number = 0; in_tables = omega arith; not_the_third = λ e. omega arith; in_table = omega arith; bears = refl };
@@ -67,7 +66,7 @@ asks_or_not s =
         (
           tt,
           (
-            ((λ e. absurd (omega (arith, e))), (λ _ q l. none_fit channel_2 120 refl q l)),
+            ((λ e. absurd (omega (arith, e))), (λ _. none_found)),
             (((λ _. refl), (λ l. absurd (false≢true l))), (((λ e. absurd (omega (arith, e))), (λ l. absurd (false≢true l))), tt)),
           ),
         ),
