@@ -1,9 +1,7 @@
 -- What alone changes the holds and the pressed buttons of a button interface. Assumes nothing.
-use Rattle.std.proofs.Common.{◌≡◌, ℕ, zero, suc, ◌+◌, ◌-◌, ◌*◌, ◌/◌, ◌%◌, ◌^◌, ◌<◌, ◌≤◌, min, Bool, true, false, cond, ◌&&◌, ◌||◌, eqb, ltb, List, get_or, is_some, Some, None, Option, sym, refl, ap, ◌∙◌, inl, inr, arith}
-use Rattle.std.specs.Int.{bit_at}
+use Rattle.std.proofs.Common.{◌≡◌, ℕ, ◌+◌, ◌*◌, ◌≤◌, Bool, true, false, cond, ◌&&◌, ◌||◌, eqb, ltb, List, get_or, is_some, Some, None, Option, sym, refl, ap, ◌∙◌, inl, inr, arith}
 use lib.Bits.{bit_and}
 use Rattle.std.proofs.lemmas.Bool.{cond-false, cond_both, ne_eqb, eqb-true, lt-ltb}
-use Rattle.std.proofs.lemmas.Nat.Bits.{bit_at_and}
 use Rattle.bus.specs.declared.frame.Frame.{Frame}
 use Rattle.bus.specs.Frames.{byte, is_command, seconds_in}
 use Rattle.station.specs.declared.event.Event.{Event}
@@ -11,7 +9,6 @@ use Rattle.station.specs.declared.event.Event.TheVariants.{Heard, Second, Pushed
 use Rattle.station.specs.Kinds.{Record, Outcome, from_link}
 use Rattle.module.specs.Bits.{has_bit}
 use Rattle.module.specs.Pushes.{bit}
-use Rattle.module.proofs.Bitwise.{at_place}
 use Rattle.timing.specs.declared.locking.Locking.TheVariants.{Lock, Unlock}
 use Rattle.timing.specs.Holds.{ticked}
 use Rattle.timing.specs.TimeCodes.{hold_of_code}
@@ -21,31 +18,12 @@ use Rattle.interface.specs.Links.{link_byte, lock_for, toggle_for, asked}
 use Rattle.buttons.specs.Buttons.{variant}
 use Rattle.buttons.specs.Buttons.{design as buttons_design}
 use Rattle.kinds.specs.Kinds.{buttons_kind, EveryButtonInterface}
+use Rattle.button_laws.specs.Interfaces.{hold as decoded_hold}
 use Rattle.button_laws.specs.Holding.{AsksNothing, commands, record_acts}
 use Rattle.button_laws.proofs.Holding.{hold_moves}
-use Rattle.module_laws.specs.InterfaceKeeps.{names_channel, record_asks, AsksNoHold, HoldsKept, PressedKept}
-use Rattle.laws.proofs.Bits.{bit_one}
-
--- each of the eight bits counts
-full : (i : ℕ) → i < 8 → bit_at 255 i ≡ 1
-full zero h = refl
-full (suc zero) h = refl
-full (suc (suc zero)) h = refl
-full (suc (suc (suc zero))) h = refl
-full (suc (suc (suc (suc zero)))) h = refl
-full (suc (suc (suc (suc (suc zero))))) h = refl
-full (suc (suc (suc (suc (suc (suc zero)))))) h = refl
-full (suc (suc (suc (suc (suc (suc (suc zero))))))) h = refl
-full (suc (suc (suc (suc (suc (suc (suc (suc i)))))))) h = absurd (omega arith)
-
--- in a byte of channel bits
-same_bit : (n channel : ℕ) → 1 ≤ channel → channel ≤ 8 → has_bit (bit_and n 0xFF) (bit channel) ≡ names_channel n channel
-same_bit n channel low high =
-    let i : ℕ = channel - 1 in
-    let within : i < 8 = omega arith in
-    let m : ℕ = n / 2 ^ i % 2 in
-    let small : min m 1 ≡ m = omega arith in
-    at_place (bit_and n 0xFF) i (eqb m 1) (bit_at_and n 255 i ∙ (ap (min m) (full i within) ∙ (small ∙ bit_one m (omega arith))))
+use Rattle.module_laws.specs.InterfaceStates.{names_channel}
+use Rattle.module_laws.specs.InterfaceKeeps.{record_asks, AsksNoHold, HoldsKept, PressedKept}
+use Rattle.module_laws.proofs.InterfaceStates.{same_hold, same_bit}
 
 -- what is a lock or an unlock
 is_asked : (f : Frame) → is_some (commanded f) ≡ true → (is_command 0x12 5 f || is_command 0x13 2 f) ≡ true
@@ -98,11 +76,18 @@ asks_nothing s own r channel low high (Heard f) h = ((λ at. nothing_commanded f
 asks_nothing s own r channel low high Second h = tt
 asks_nothing s own r channel low high (Pushed p) h = tt
 
+-- such an event moves the decoded hold only by a second
+hold_stays : (s : InterfaceSetup) (own : ℕ) (r : Record) (channel : ℕ) → 1 ≤ channel → channel ≤ 8 → (e : Event) → AsksNoHold (buttons_kind s) own r channel e → decoded_hold ((buttons_kind s).acts own r e).after channel ≡ decoded_hold r channel
+hold_stays s own r channel low high (Heard f) h = hold_moves variant s own channel low high r (Heard f) (asks_nothing s own r channel low high (Heard f) h)
+hold_stays s own r channel low high Second h =
+    let same = same_hold r channel low high in
+    hold_moves variant s own channel low high r Second tt
+    ∙ elim h [ inl none ↦ (let z = sym same ∙ none in ap ticked z ∙ sym z) | inr ever ↦ (let z = sym same ∙ ever in ap ticked z ∙ sym z) ]
+hold_stays s own r channel low high (Pushed p) h = hold_moves variant s own channel low high r (Pushed p) tt
+
 pub holds_kept : EveryButtonInterface HoldsKept
-holds_kept s own r channel (Heard f) low high h = hold_moves variant s own channel low high r (Heard f) (asks_nothing s own r channel low high (Heard f) h)
-holds_kept s own r channel Second low high h =
-    hold_moves variant s own channel low high r Second tt ∙ elim h [ inl none ↦ ap ticked none ∙ sym none | inr ever ↦ ap ticked ever ∙ sym ever ]
-holds_kept s own r channel (Pushed p) low high h = hold_moves variant s own channel low high r (Pushed p) tt
+holds_kept s own r channel e low high h =
+    same_hold ((buttons_kind s).acts own r e).after channel low high ∙ (hold_stays s own r channel low high e h ∙ sym (same_hold r channel low high))
 
 pub pressed_kept : EveryButtonInterface PressedKept
 pressed_kept s own r (Heard f) h =

@@ -1,1 +1,3 @@
+mod InterfaceStates
 mod InterfaceKeeps
+mod InterfaceLocks

@@ -1,20 +1,11 @@
 -- What alone changes the holds and the pressed buttons of a button interface. Assumes nothing.
-use Rattle.std.specs.Prelude.{◌≡◌, ℕ, ◌+◌, ◌-◌, ◌*◌, ◌/◌, ◌%◌, ◌^◌, ◌<◌, ◌≤◌, ◌≢◌, Bool, true, false, cond, not, ◌&&◌, ◌||◌, ◌⊎◌, List, ◌==◌, nat_lt, bit_and, slice_index}
+use Rattle.std.specs.Prelude.{◌≡◌, ℕ, ◌+◌, ◌*◌, ◌<◌, ◌≤◌, ◌≢◌, Bool, true, false, cond, not, ◌&&◌, ◌||◌, ◌⊎◌, List, ◌==◌, nat_lt, bit_and, slice_index}
 use Rattle.bus.specs.declared.frame.Frame.{Frame}
 use Rattle.bus.specs.Frames.{is_command}
 use Rattle.station.specs.declared.event.Event.{Event}
 use Rattle.station.specs.declared.event.Event.TheVariants.{Heard, Second, Pushed}
 use Rattle.station.specs.Kinds.{Record, Kind, from_link}
-use Rattle.interface.specs.Channels.{hold_on}
-use Rattle.interface.specs.States.{decoded}
-
--- the hold on a channel, 1 to 8
-abbrev pub hold : Record → ℕ → ℕ
-hold r channel = hold_on (decoded r.state).holds channel
-
--- a byte has the bit of a channel
-abbrev pub names_channel : ℕ → ℕ → Bool
-names_channel n channel = n / 2 ^ (channel - 1) % 2 == 1
+use Rattle.module_laws.specs.InterfaceStates.{hold, pressed, names_channel}
 
 -- link record k, of five cells from H'0100' + 5 x k on, asks something of the channel on a button status: it bears the
 -- sender's address, has a bit in common with the buttons just pressed, locks or toggles (3, 4) with a code below 252 or
@@ -46,6 +37,6 @@ NoPush own (Heard f) = Unit
 NoPush own Second = Unit
 NoPush own (Pushed p) = p.address ≢ own
 
--- such an event leaves the byte of the pressed buttons, the fourth of the state, as it was
+-- such an event leaves the byte of the pressed buttons as it was
 abbrev pub PressedKept : Kind → Type 0
-PressedKept k = (own : ℕ) (r : Record) (e : Event) → NoPush own e → slice_index (k.acts own r e).after.state 3 ≡ slice_index r.state 3
+PressedKept k = (own : ℕ) (r : Record) (e : Event) → NoPush own e → pressed (k.acts own r e).after ≡ pressed r

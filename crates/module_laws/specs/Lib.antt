@@ -1,1 +1,3 @@
+pub mod InterfaceStates
 pub mod InterfaceKeeps
+pub mod InterfaceLocks

@@ -4,11 +4,20 @@
 
 ghost use Rattle.kinds.specs.Kinds.{EveryButtonInterface};
 ghost use Rattle.module_laws.specs.InterfaceKeeps.{HoldsKept, PressedKept};
+ghost use Rattle.module_laws.specs.InterfaceLocks.{LocksObeyed, SecondsCount};
 
 // What alone changes the holds and the pressed buttons of a button interface.
 pub fn interface_keeping_laws() -> u8
     ensures holds { EveryButtonInterface HoldsKept }
     ensures pressed { EveryButtonInterface PressedKept }
+{
+    0
+}
+
+// What commands and seconds make of the holds of a button interface.
+pub fn interface_lock_laws() -> u8
+    ensures lock_commands { EveryButtonInterface LocksObeyed }
+    ensures seconds { EveryButtonInterface SecondsCount }
 {
     0
 }
