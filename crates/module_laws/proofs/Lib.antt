@@ -1,3 +1,4 @@
 mod InterfaceStates
 mod InterfaceKeeps
 mod InterfaceLocks
+mod InterfaceRecords

@@ -1,3 +1,4 @@
 pub mod InterfaceStates
 pub mod InterfaceKeeps
 pub mod InterfaceLocks
+pub mod InterfaceRecords

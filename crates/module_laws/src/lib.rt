@@ -5,6 +5,7 @@
 ghost use Rattle.kinds.specs.Kinds.{EveryButtonInterface};
 ghost use Rattle.module_laws.specs.InterfaceKeeps.{HoldsKept, PressedKept};
 ghost use Rattle.module_laws.specs.InterfaceLocks.{LocksObeyed, SecondsCount};
+ghost use Rattle.module_laws.specs.InterfaceRecords.{RecordsObeyed, RecordsLink};
 
 // What alone changes the holds and the pressed buttons of a button interface.
 pub fn interface_keeping_laws() -> u8
@@ -18,6 +19,14 @@ pub fn interface_keeping_laws() -> u8
 pub fn interface_lock_laws() -> u8
     ensures lock_commands { EveryButtonInterface LocksObeyed }
     ensures seconds { EveryButtonInterface SecondsCount }
+{
+    0
+}
+
+// What the link records of a button interface make of its holds, and whom they link.
+pub fn interface_record_laws() -> u8
+    ensures record_actions { EveryButtonInterface RecordsObeyed }
+    ensures links { EveryButtonInterface RecordsLink }
 {
     0
 }
