@@ -2,3 +2,5 @@ mod InterfaceStates
 mod InterfaceKeeps
 mod InterfaceLocks
 mod InterfaceRecords
+mod InterfaceReplies
+mod InterfaceClock
