@@ -4,15 +4,17 @@
 
 ghost use Rattle.kinds.specs.Kinds.{EveryButtonInterface};
 ghost use Rattle.module_laws.specs.InterfaceClock.{ClockSet, ClockMoves};
-ghost use Rattle.module_laws.specs.InterfaceKeeps.{HoldsKept, PressedKept};
+ghost use Rattle.module_laws.specs.InterfaceKeeps.{HoldsKept, PressedKept, LampsKept, ClockKept};
 ghost use Rattle.module_laws.specs.InterfaceLocks.{LocksObeyed, SecondsCount};
 ghost use Rattle.module_laws.specs.InterfaceRecords.{RecordsObeyed, RecordsLink};
 ghost use Rattle.module_laws.specs.InterfaceReplies.{StatusTold, TypeTold, TimeTold};
 
-// What alone changes the holds and the pressed buttons of a button interface.
+// What alone changes the holds, the pressed buttons, the lamps and the clock of a button interface.
 pub fn interface_keeping_laws() -> u8
     ensures holds { EveryButtonInterface HoldsKept }
     ensures pressed { EveryButtonInterface PressedKept }
+    ensures lamps { EveryButtonInterface LampsKept }
+    ensures clock { EveryButtonInterface ClockKept }
 {
     0
 }
