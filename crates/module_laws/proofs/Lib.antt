@@ -4,3 +4,5 @@ mod InterfaceLocks
 mod InterfaceRecords
 mod InterfaceReplies
 mod InterfaceClock
+mod LampCommands
+mod ButtonEdges

@@ -4,3 +4,5 @@ pub mod InterfaceLocks
 pub mod InterfaceRecords
 pub mod InterfaceReplies
 pub mod InterfaceClock
+pub mod LampCommands
+pub mod ButtonEdges
