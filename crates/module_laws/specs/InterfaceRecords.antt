@@ -38,14 +38,19 @@ pub record Makes (action code was is : ℕ) : Type 0 where
   pub frees : action ≡ 5 → is ≡ 0
   pub others : (action ≢ 3) → (action ≢ 4) → (action ≢ 5) → is ≡ was
 
--- the holds on a channel between two numbers of records: each of the 51 records finds what the one before it left, and
--- leaves it unless it fits
+-- the hold on a channel before each of the 51 records, in order, and after the last: each finds what the one before it left,
+-- and leaves it unless it fits
 pub record InTurn (cells : List ℕ) (f : Frame) (channel first last : ℕ) : Type 0 where
   pub before : ℕ → ℕ
   pub starts : before 0 ≡ first
   pub fitting : (k : ℕ) → k < 51 → fits cells f channel k ≡ true → Makes (record_byte cells k 2) (record_byte cells k 3) (before k) (before (suc k))
   pub other : (k : ℕ) → k < 51 → fits cells f channel k ≡ false → before (suc k) ≡ before k
   pub ends : before 51 ≡ last
+
+-- there is only one last hold
+abbrev pub OneLastHold : Type 0
+OneLastHold =
+    (cells : List ℕ) (f : Frame) (channel first last other : ℕ) → InTurn cells f channel first last → InTurn cells f channel first other → last ≡ other
 
 -- so a button status from a linked address acts on each channel, and nothing is sent
 pub record StatusObeyed (own : ℕ) (r : Record) (f : Frame) (o : Outcome) : Type 0 where

@@ -8,7 +8,7 @@ ghost use Rattle.module_laws.specs.ButtonEdges.{EveryEdgeShown};
 ghost use Rattle.module_laws.specs.InterfaceClock.{ClockSet, ClockMoves};
 ghost use Rattle.module_laws.specs.InterfaceKeeps.{HoldsKept, PressedKept, LampsKept, ClockKept};
 ghost use Rattle.module_laws.specs.InterfaceLocks.{LocksObeyed, SecondsCount};
-ghost use Rattle.module_laws.specs.InterfaceRecords.{RecordsObeyed, RecordsLink};
+ghost use Rattle.module_laws.specs.InterfaceRecords.{RecordsObeyed, OneLastHold, RecordsLink};
 ghost use Rattle.module_laws.specs.InterfaceReplies.{StatusTold, TypeTold, TimeTold, SilentElse};
 ghost use Rattle.module_laws.specs.LampCommands.{LampsPut};
 
@@ -33,6 +33,7 @@ pub fn interface_lock_laws() -> u8
 // What the link records of a button interface make of its holds, and whom they link.
 pub fn interface_record_laws() -> u8
     ensures record_actions { EveryButtonInterface RecordsObeyed }
+    ensures one_last_hold { OneLastHold }
     ensures links { EveryButtonInterface RecordsLink }
 {
     0
