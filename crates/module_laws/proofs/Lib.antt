@@ -6,3 +6,4 @@ mod InterfaceReplies
 mod InterfaceClock
 mod LampCommands
 mod ButtonEdges
+mod InterfaceTimes

@@ -6,3 +6,4 @@ pub mod InterfaceReplies
 pub mod InterfaceClock
 pub mod LampCommands
 pub mod ButtonEdges
+pub mod InterfaceTimes

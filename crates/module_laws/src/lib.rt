@@ -10,6 +10,7 @@ ghost use Rattle.module_laws.specs.InterfaceKeeps.{HoldsKept, PressedKept, Lamps
 ghost use Rattle.module_laws.specs.InterfaceLocks.{LocksObeyed, SecondsCount};
 ghost use Rattle.module_laws.specs.InterfaceRecords.{RecordsObeyed, OneLastHold, RecordsLink};
 ghost use Rattle.module_laws.specs.InterfaceReplies.{StatusTold, TypeTold, TimeTold, SilentElse};
+ghost use Rattle.module_laws.specs.InterfaceTimes.{HoldsRun};
 ghost use Rattle.module_laws.specs.LampCommands.{LampsPut};
 
 // What alone changes the holds, the pressed buttons, the lamps and the clock of a button interface.
@@ -22,10 +23,11 @@ pub fn interface_keeping_laws() -> u8
     0
 }
 
-// What commands and seconds make of the holds of a button interface.
+// What commands and seconds make of the holds of a button interface, and how long they last.
 pub fn interface_lock_laws() -> u8
     ensures lock_commands { EveryButtonInterface LocksObeyed }
     ensures seconds { EveryButtonInterface SecondsCount }
+    ensures times { EveryButtonInterface HoldsRun }
 {
     0
 }
