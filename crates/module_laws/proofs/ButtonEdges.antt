@@ -1,6 +1,6 @@
 -- What a push at a button of a panel or of a button interface does. Assumes nothing.
-use Rattle.std.proofs.Common.{◌≡◌, ℕ, ◌-◌, ◌<◌, ◌≤◌, ◌≢◌, ◌⊎◌, Bool, true, false, not, ◌&&◌, eqb, ltb, leb, get_or, sym, refl, ap, ◌∙◌, inl, inr, arith}
-use Rattle.std.proofs.lemmas.Bool.{and_from, and_left, and_right, eq-eqb, ne_eqb, lt-ltb, le-leb, le-ltb, lt-leb, cases_lt, cases_eq}
+use Rattle.std.proofs.Common.{◌≡◌, ℕ, ◌<◌, ◌≤◌, ◌⊎◌, Bool, true, false, not, eqb, ltb, leb, get_or, sym, refl, ap, ◌∙◌, inl, inr, arith}
+use Rattle.std.proofs.lemmas.Bool.{and_from, and_left, and_right, eq-eqb, ne_eqb, lt-ltb, le-leb, le-ltb, lt-leb, cases_lt}
 use Rattle.station.specs.declared.edge.Edge.{Edge}
 use Rattle.station.specs.declared.edge.Edge.TheVariants.{Press, Release, LongPress}
 use Rattle.station.specs.declared.event.Event.TheVariants.{Pushed}
@@ -12,7 +12,7 @@ use Rattle.kinds.specs.Kinds.{panel_kind, buttons_kind}
 use Rattle.laws.specs.Pushing.{left_down, counts, PushMoves, PushIgnored}
 use Rattle.laws.proofs.Pushing.{push_moves, push_ignored}
 use Rattle.module_laws.specs.InterfaceStates.{hold}
-use Rattle.module_laws.specs.ButtonEdges.{down, Nothing, Shown, EdgeShown, Ignores, EdgesShown, EveryEdgeShown}
+use Rattle.module_laws.specs.ButtonEdges.{down, Nothing, EdgeShown, Ignores, EdgesShown, EveryEdgeShown}
 use Rattle.module_laws.proofs.InterfaceStates.{same_hold}
 use Rattle.module_laws.proofs.LampCommands.{bit_number, is_set, is_clear}
 

@@ -1,11 +1,10 @@
 -- What the link records of a button interface make of its holds, and whom they link. Assumes nothing.
-use Rattle.std.proofs.Common.{◌≡◌, ℕ, zero, suc, ◌+◌, ◌-◌, ◌*◌, ◌<◌, ◌≤◌, ◌≢◌, Bool, true, false, cond, not, ◌&&◌, eqb, ltb, leb, List, [], is_some, Some, None, Option, sym, refl, ap, ◌∙◌, subst, inl, inr, arith}
+use Rattle.std.proofs.Common.{◌≡◌, ℕ, zero, suc, ◌+◌, ◌-◌, ◌*◌, ◌<◌, ◌≤◌, ◌≢◌, Bool, true, false, not, ◌&&◌, eqb, ltb, leb, List, is_some, Some, None, sym, refl, ap, ◌∙◌, subst, inl, inr, arith}
 use lib.Bits.{bit_and}
 use Rattle.std.proofs.lemmas.Bool.{false≢true, both_ways, not-true, cases_Bool, cases_eq, cases_lt, cond-true, cond-false, cond_both, and_parts, and_cases, and_from, and_left, and_right, eqb-true, eq-eqb, ne_eqb, ltb-true, lt-ltb, le-leb, lt-leb, le-ltb}
 use Rattle.bus.specs.declared.frame.Frame.{Frame}
-use Rattle.bus.specs.Frames.{byte}
 use Rattle.station.specs.declared.event.Event.TheVariants.{Heard}
-use Rattle.station.specs.Kinds.{Record, Outcome, from_link, links}
+use Rattle.station.specs.Kinds.{Outcome, links}
 use Rattle.module.specs.Bits.{has_bit}
 use Rattle.module.specs.Pushes.{bit}
 use Rattle.module.specs.Searches.{first}
@@ -13,13 +12,12 @@ use Rattle.module.proofs.Answered.{at_link}
 use Rattle.timing.specs.declared.locking.Locking.{Locking}
 use Rattle.timing.specs.declared.locking.Locking.TheVariants.{Lock, Toggle, Unlock}
 use Rattle.timing.specs.Holds.{locked, hold_for, obeyed}
-use Rattle.timing.specs.TimeCodes.{stretches, by_stretch, seconds_of_code, hold_of_code}
-use Rattle.interface.specs.declared.setup.InterfaceSetup.{InterfaceSetup}
+use Rattle.timing.specs.TimeCodes.{stretches, by_stretch, hold_of_code}
 use Rattle.interface.specs.Links.{bears, named, lock_for, toggle_for, asked, matches}
 use Rattle.buttons.specs.Buttons.{variant}
 use Rattle.buttons.specs.Buttons.{design as buttons_design}
 use Rattle.kinds.specs.Kinds.{buttons_kind, EveryButtonInterface}
-use Rattle.button_laws.specs.Holding.{record_acts, InOrder}
+use Rattle.button_laws.specs.Holding.{InOrder}
 use Rattle.button_laws.specs.Interfaces.{hold as decoded_hold}
 use Rattle.button_laws.proofs.Holding.{records_act_in_order, short}
 use Rattle.module_laws.specs.InterfaceStates.{hold, names_channel}

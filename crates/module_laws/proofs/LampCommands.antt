@@ -1,5 +1,5 @@
 -- What the lamp commands make of each lamp of a panel and of a button interface. Assumes nothing.
-use Rattle.std.proofs.Common.{◌≡◌, ℕ, ◌-◌, ◌/◌, ◌%◌, ◌^◌, ◌<◌, ◌≤◌, Bool, true, false, get_or, sym, refl, ap, ◌∙◌, arith}
+use Rattle.std.proofs.Common.{◌≡◌, ℕ, ◌-◌, ◌/◌, ◌%◌, ◌^◌, true, false, get_or, sym, refl, ap, ◌∙◌, arith}
 use Rattle.std.proofs.lemmas.Bool.{cond-true, cond-false, eq-eqb, ne_eqb}
 use Rattle.bus.specs.declared.frame.Frame.{Frame}
 use Rattle.bus.specs.Frames.{byte, is_command}
@@ -52,9 +52,10 @@ module _ (k : Kind) (obey : LampsObey k) where
   puts : (mode : LampMode) → Puts k (asks_for mode) (one (shining mode).on) (one (shining mode).slow) (one (shining mode).fast)
   puts mode own r f lamp low high here w small =
       let q = (k.acts own r (Heard f)).after in
-      let told = obey own r f mode lamp here w small low high in
-      ((λ e. lit q lamp (shining mode) (told ∙ cond-true (has_bit (byte f 1) (bit lamp)) _ _ (is_set (byte f 1) lamp e))),
-      (λ e. kept r q lamp (told ∙ cond-false (has_bit (byte f 1) (bit lamp)) _ _ (is_clear (byte f 1) lamp e))))
+      let told = obey own r f mode lamp here w small low high in (
+        (λ e. lit q lamp (shining mode) (told ∙ cond-true (has_bit (byte f 1) (bit lamp)) _ _ (is_set (byte f 1) lamp e))),
+        (λ e. kept r q lamp (told ∙ cond-false (has_bit (byte f 1) (bit lamp)) _ _ (is_clear (byte f 1) lamp e))),
+      )
 
 -- the lamps that the state bytes tell
 abbrev lamps_of : Record → Lamps
