@@ -12,7 +12,7 @@ use Rattle.kinds.specs.Kinds.{panel_kind, buttons_kind}
 use Rattle.laws.specs.Pushing.{left_down, counts, PushMoves, PushIgnored}
 use Rattle.laws.proofs.Pushing.{push_moves, push_ignored}
 use Rattle.module_laws.specs.InterfaceStates.{hold}
-use Rattle.module_laws.specs.ButtonEdges.{down, Nothing, EdgeShown, Ignores, EdgesShown, EveryEdgeShown}
+use Rattle.module_laws.specs.ButtonEdges.{button_bit, NothingDone, EdgeShown, Ignores, EdgesShown, EveryEdgeShown}
 use Rattle.module_laws.proofs.InterfaceStates.{same_hold}
 use Rattle.module_laws.proofs.LampCommands.{bit_number, is_set, is_clear}
 
@@ -35,15 +35,15 @@ module _ (k : Kind) (old locked : Record → ℕ → Bool) (agree : (r : Record)
         others = λ b l h apart. bit_number _ b ∙ (ap one (m.others b l h apart) ∙ sym (bit_number n b));
       }
     where
-      by : (was : Bool) → down r button ≡ one was → has_down (get_or r.state 3 0) button ≡ was
+      by : (was : Bool) → button_bit r button ≡ one was → has_down (get_or r.state 3 0) button ≡ was
       by true e = is_set (get_or r.state 3 0) button e
       by false e = is_clear (get_or r.state 3 0) button e
 
-  nothing : (own : ℕ) (r : Record) (p : Push) → counts old own r p ≡ false → Nothing r (k.acts own r (Pushed p))
+  nothing : (own : ℕ) (r : Record) (p : Push) → counts old own r p ≡ false → NothingDone r (k.acts own r (Pushed p))
   nothing own r p e = let stay = ignored own r p e in record { silent = stay.silent; same = stay.same 3 (omega arith) }
 
   -- an edge that the button cannot show
-  unable : (own : ℕ) (r : Record) (p : Push) → possible p.edge (has_down (get_or r.state 3 0) p.channel) ≡ false → Nothing r (k.acts own r (Pushed p))
+  unable : (own : ℕ) (r : Record) (p : Push) → possible p.edge (has_down (get_or r.state 3 0) p.channel) ≡ false → NothingDone r (k.acts own r (Pushed p))
   unable own r p e =
       nothing own r p
       (and_right (eqb p.address own) _ (and_right (ltb 0 p.channel) _ (and_right (leb p.channel 8) _ (and_right (not (old r p.channel)) _ e))))

@@ -17,7 +17,7 @@ use Rattle.buttons.specs.Buttons.{design as buttons_design}
 use Rattle.kinds.specs.Kinds.{buttons_kind, EveryButtonInterface}
 use Rattle.button_laws.proofs.Clocks.{clock_is_told}
 use Rattle.button_laws.proofs.Replies.{no_memory, no_type, type_is_told}
-use Rattle.module_laws.specs.InterfaceStates.{hold, pressed}
+use Rattle.module_laws.specs.InterfaceStates.{hold, pressed_bits}
 use Rattle.module_laws.specs.InterfaceReplies.{held_channels, StatusTold, TypeTold, TimeTold, asks_for_reply, SilentElse}
 
 turned : (b : Bool) (n : ℕ) → cond (not b) n 0 ≡ cond b 0 n
@@ -43,7 +43,7 @@ status_told s own r f e w =
     let no_clock : clock_sent own x.clock f ≡ [] = cond-false (is_command 0xD7 1 f) _ _ (other_command 0xFA 2 f w 0xD7 1 refl) in
     ap (λ (o : Outcome). o.sent) (at_own (buttons_design s) own r f e)
     ∙ ((λ i. no_memory own 0xFA 2 f w refl refl refl r.cells i ++ (told i ++ (no_type own 0xFA 2 f w variant s i ++ no_clock i)))
-    ∙ (λ i. message 3 own (0xED ∷ pressed r ∷ 0xFF ∷ 0xFF ∷ held r i ∷ 0 ∷ 0 ∷ []) ∷ []))
+    ∙ (λ i. message 3 own (0xED ∷ pressed_bits r ∷ 0xFF ∷ 0xFF ∷ held r i ∷ 0 ∷ 0 ∷ []) ∷ []))
 
 pub type_told : TypeTold
 type_told s own r f e rtr count = type_is_told variant s own r f e (and_from (eqb f.rtr 1) (eqb f.count 0) (eq-eqb f.rtr 1 rtr) (eq-eqb f.count 0 count))

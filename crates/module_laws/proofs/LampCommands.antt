@@ -19,7 +19,7 @@ use Rattle.buttons.specs.Buttons.{design as buttons_design}
 use Rattle.laws.specs.LampModes.{Light, light, shining, asks_for, LampsObey, EveryKindWithLamps}
 use Rattle.laws.proofs.Bits.{bit_one, bit_named}
 use Rattle.laws.proofs.LampModes.{lamps_obey}
-use Rattle.module_laws.specs.LampCommands.{lamp_bit, Lit, Puts, LampsPut}
+use Rattle.module_laws.specs.LampCommands.{lamp_bit, LampIs, Puts, LampsPut}
 
 -- a bit as a number
 pub bit_number : (n c : ℕ) → lamp_bit n c ≡ one (has_bit n (bit c))
@@ -32,7 +32,7 @@ pub is_clear : (n c : ℕ) → lamp_bit n c ≡ 0 → has_bit n (bit c) ≡ fals
 is_clear n c e = bit_named n (c - 1) ∙ ne_eqb (lamp_bit n c) 1 (λ o. omega arith)
 
 -- the light of a lamp as numbers
-lit : (r : Record) (c : ℕ) (x : Light) → light r c ≡ x → Lit r c (one x.on) (one x.slow) (one x.fast)
+lit : (r : Record) (c : ℕ) (x : Light) → light r c ≡ x → LampIs r c (one x.on) (one x.slow) (one x.fast)
 lit r c x e =
     record {
       in_on = bit_number _ c ∙ ap (λ y. one y.on) e;
@@ -40,7 +40,7 @@ lit r c x e =
       in_fast = bit_number _ c ∙ ap (λ y. one y.fast) e;
     }
 
-kept : (r q : Record) (c : ℕ) → light q c ≡ light r c → Lit q c (lamp_bit (get_or r.state 0 0) c) (lamp_bit (get_or r.state 1 0) c) (lamp_bit (get_or r.state 2 0) c)
+kept : (r q : Record) (c : ℕ) → light q c ≡ light r c → LampIs q c (lamp_bit (get_or r.state 0 0) c) (lamp_bit (get_or r.state 1 0) c) (lamp_bit (get_or r.state 2 0) c)
 kept r q c e =
     record {
       in_on = bit_number _ c ∙ (ap (λ y. one y.on) e ∙ sym (bit_number _ c));

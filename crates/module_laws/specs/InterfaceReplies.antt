@@ -7,7 +7,7 @@ use Rattle.station.specs.declared.event.Event.TheVariants.{Heard, Second, Pushed
 use Rattle.station.specs.Kinds.{Record, Kind}
 use Rattle.interface.specs.declared.setup.InterfaceSetup.{InterfaceSetup}
 use Rattle.kinds.specs.Kinds.{buttons_kind}
-use Rattle.module_laws.specs.InterfaceStates.{hold, pressed, day, hour, minute}
+use Rattle.module_laws.specs.InterfaceStates.{hold, pressed_bits, day, hour, minute}
 
 -- the bits of the channels with a hold
 abbrev pub held_channels : Record → ℕ
@@ -21,7 +21,7 @@ held_channels r =
 abbrev pub StatusTold : Kind → Type 0
 StatusTold k =
     (own : ℕ) (r : Record) (f : Frame) → f.address ≡ own → is_command 0xFA 2 f ≡ true →
-    (k.acts own r (Heard f)).sent ≡ message 3 own (0xED ∷ pressed r ∷ 0xFF ∷ 0xFF ∷ held_channels r ∷ 0 ∷ 0 ∷ []) ∷ []
+    (k.acts own r (Heard f)).sent ≡ message 3 own (0xED ∷ pressed_bits r ∷ 0xFF ∷ 0xFF ∷ held_channels r ∷ 0 ∷ 0 ∷ []) ∷ []
 
 -- RTR 1 without data at the own address is answered by the type and the setup, and nothing else is sent
 abbrev pub TypeTold : Type 0

@@ -10,7 +10,7 @@ abbrev pub lamp_bit : ℕ → ℕ → ℕ
 lamp_bit n lamp = n / 2 ^ (lamp - 1) % 2
 
 -- its bits in state bytes 0, 1 and 2, which are on, slow and fast
-pub record Lit (r : Record) (lamp on slow fast : ℕ) : Type 0 where
+pub record LampIs (r : Record) (lamp on slow fast : ℕ) : Type 0 where
   pub in_on : lamp_bit (slice_index r.state 0) lamp ≡ on
   pub in_slow : lamp_bit (slice_index r.state 1) lamp ≡ slow
   pub in_fast : lamp_bit (slice_index r.state 2) lamp ≡ fast
@@ -19,9 +19,9 @@ pub record Lit (r : Record) (lamp on slow fast : ℕ) : Type 0 where
 abbrev pub Puts : Kind → ℕ → ℕ → ℕ → ℕ → Type 0
 Puts k code on slow fast =
     (own : ℕ) (r : Record) (f : Frame) (lamp : ℕ) → 1 ≤ lamp → lamp ≤ 8 → f.address ≡ own → is_command code 2 f ≡ true → slice_index f.bytes 1 < 256 →
-    (lamp_bit (slice_index f.bytes 1) lamp ≡ 1 → Lit (k.acts own r (Heard f)).after lamp on slow fast)
+    (lamp_bit (slice_index f.bytes 1) lamp ≡ 1 → LampIs (k.acts own r (Heard f)).after lamp on slow fast)
     × (lamp_bit (slice_index f.bytes 1) lamp ≡ 0 →
-    Lit (k.acts own r (Heard f)).after lamp (lamp_bit (slice_index r.state 0) lamp) (lamp_bit (slice_index r.state 1) lamp) (lamp_bit (slice_index r.state 2) lamp))
+    LampIs (k.acts own r (Heard f)).after lamp (lamp_bit (slice_index r.state 0) lamp) (lamp_bit (slice_index r.state 1) lamp) (lamp_bit (slice_index r.state 2) lamp))
 
 -- F4 with four bytes at the own address gives the three bytes
 pub record Sets (f : Frame) (r : Record) : Type 0 where
