@@ -7,3 +7,4 @@ mod InterfaceClock
 mod LampCommands
 mod ButtonEdges
 mod InterfaceTimes
+mod InterfaceCells

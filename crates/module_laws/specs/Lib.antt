@@ -7,3 +7,4 @@ pub mod InterfaceClock
 pub mod LampCommands
 pub mod ButtonEdges
 pub mod InterfaceTimes
+pub mod InterfaceCells

@@ -5,6 +5,7 @@
 ghost use Rattle.kinds.specs.Kinds.{EveryButtonInterface};
 ghost use Rattle.laws.specs.LampModes.{EveryKindWithLamps};
 ghost use Rattle.module_laws.specs.ButtonEdges.{EveryEdgeShown};
+ghost use Rattle.module_laws.specs.InterfaceCells.{OtherCellsIgnored};
 ghost use Rattle.module_laws.specs.InterfaceClock.{ClockSet, ClockMoves};
 ghost use Rattle.module_laws.specs.InterfaceKeeps.{HoldsKept, PressedKept, LampsKept, ClockKept};
 ghost use Rattle.module_laws.specs.InterfaceLocks.{LocksObeyed, SecondsCount};
@@ -32,11 +33,12 @@ pub fn interface_lock_laws() -> u8
     0
 }
 
-// What the link records of a button interface make of its holds, and whom they link.
+// What the link records of a button interface make of its holds, whom they link, and that other cells say nothing.
 pub fn interface_record_laws() -> u8
     ensures record_actions { EveryButtonInterface RecordsObeyed }
     ensures one_last_hold { OneLastHold }
     ensures links { EveryButtonInterface RecordsLink }
+    ensures other_cells { EveryButtonInterface OtherCellsIgnored }
 {
     0
 }
