@@ -42,7 +42,7 @@ moved (Pushed p) t = t
 foreign : (t : Time) (f : Frame) → eqb f.address 0 ≡ false → clock_after t f ≡ t
 foreign t f e = cond-false (eqb f.address 0 && is_command 0xD8 4 f) _ _ (and_left (eqb f.address 0) (is_command 0xD8 4 f) e)
 
-time_moves : (v : Variant) (s : InterfaceSetup) (own : ℕ) (r : Record) (e : Event) → time ((interface_kind v s).acts own r e).after ≡ moved e (time r)
+pub time_moves : (v : Variant) (s : InterfaceSetup) (own : ℕ) (r : Record) (e : Event) → time ((interface_kind v s).acts own r e).after ≡ moved e (time r)
 time_moves v s own r (Heard f) =
     let x = decoded r.state in
     let Is : Outcome → Type 0 = λ o. time o.after ≡ clock_after (time r) f in
@@ -151,7 +151,7 @@ one_more t h =
     by_cases true true true true p q u v = omega arith
 
 -- what does not set the clock leaves it
-unset : (t : Time) (f : Frame) → sets f ≡ false → clock_after t f ≡ t
+pub unset : (t : Time) (f : Frame) → sets f ≡ false → clock_after t f ≡ t
 unset t f e =
     cond_both (eqb f.address 0 && is_command 0xD8 4 f) (set_to (byte f 1) (byte f 2) (byte f 3) t) t (λ k. k ≡ t)
     (λ asked. cond_both (real (byte f 1) (byte f 2) (byte f 3)) _ t (λ k. k ≡ t)

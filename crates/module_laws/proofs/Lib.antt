@@ -1,1 +1,10 @@
+mod InterfaceStates
 mod InterfaceKeeps
+mod InterfaceLocks
+mod InterfaceRecords
+mod InterfaceReplies
+mod InterfaceClock
+mod LampCommands
+mod ButtonEdges
+mod InterfaceTimes
+mod InterfaceCells

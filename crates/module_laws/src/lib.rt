@@ -3,12 +3,74 @@
 #![tactic(auto)]
 
 ghost use Rattle.kinds.specs.Kinds.{EveryButtonInterface};
-ghost use Rattle.module_laws.specs.InterfaceKeeps.{HoldsKept, PressedKept};
+ghost use Rattle.laws.specs.LampModes.{EveryKindWithLamps};
+ghost use Rattle.module_laws.specs.ButtonEdges.{EveryEdgeShown};
+ghost use Rattle.module_laws.specs.InterfaceCells.{OtherCellsIgnored};
+ghost use Rattle.module_laws.specs.InterfaceClock.{ClockSet, ClockMoves};
+ghost use Rattle.module_laws.specs.InterfaceKeeps.{HoldsKept, PressedKept, LampsKept, ClockKept};
+ghost use Rattle.module_laws.specs.InterfaceLocks.{LocksObeyed, SecondsCount};
+ghost use Rattle.module_laws.specs.InterfaceRecords.{RecordsObeyed, OneLastHold, RecordsLink};
+ghost use Rattle.module_laws.specs.InterfaceReplies.{StatusTold, TypeTold, TimeTold, SilentElse};
+ghost use Rattle.module_laws.specs.InterfaceTimes.{HoldsRun};
+ghost use Rattle.module_laws.specs.LampCommands.{LampsPut};
 
-// What alone changes the holds and the pressed buttons of a button interface.
+// What alone changes the holds, the pressed buttons, the lamps and the clock of a button interface.
 pub fn interface_keeping_laws() -> u8
     ensures holds { EveryButtonInterface HoldsKept }
     ensures pressed { EveryButtonInterface PressedKept }
+    ensures lamps { EveryButtonInterface LampsKept }
+    ensures clock { EveryButtonInterface ClockKept }
+{
+    0
+}
+
+// What commands and seconds make of the holds of a button interface, and how long they last.
+pub fn interface_lock_laws() -> u8
+    ensures lock_commands { EveryButtonInterface LocksObeyed }
+    ensures seconds { EveryButtonInterface SecondsCount }
+    ensures times { EveryButtonInterface HoldsRun }
+{
+    0
+}
+
+// What the link records of a button interface make of its holds, whom they link, and that other cells say nothing.
+pub fn interface_record_laws() -> u8
+    ensures record_actions { EveryButtonInterface RecordsObeyed }
+    ensures one_last_hold { OneLastHold }
+    ensures links { EveryButtonInterface RecordsLink }
+    ensures other_cells { EveryButtonInterface OtherCellsIgnored }
+{
+    0
+}
+
+// What a button interface answers to those who ask for its status, its type and the time, and when it sends nothing.
+pub fn interface_reply_laws() -> u8
+    ensures status { EveryButtonInterface StatusTold }
+    ensures type_request { TypeTold }
+    ensures time { EveryButtonInterface TimeTold }
+    ensures silent_else { EveryButtonInterface SilentElse }
+{
+    0
+}
+
+// How the clock of a button interface moves, and what sets it.
+pub fn interface_clock_laws() -> u8
+    ensures set { EveryButtonInterface ClockSet }
+    ensures moves { EveryButtonInterface ClockMoves }
+{
+    0
+}
+
+// What the lamp commands make of each lamp of a panel and of a button interface.
+pub fn lamp_command_laws() -> u8
+    ensures lamps { EveryKindWithLamps LampsPut }
+{
+    0
+}
+
+// What a push at a button of a panel or of a button interface does.
+pub fn push_edge_laws() -> u8
+    ensures edges { EveryEdgeShown }
 {
     0
 }
