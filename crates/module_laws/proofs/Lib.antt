@@ -1,1 +1,2 @@
 mod InterfaceKeeps
+mod Frames

@@ -1,1 +1,2 @@
 pub mod InterfaceKeeps
+pub mod Frames

@@ -3,12 +3,29 @@
 #![tactic(auto)]
 
 ghost use Rattle.kinds.specs.Kinds.{EveryButtonInterface};
+ghost use Rattle.module_laws.specs.Frames.{CommandsAre, StatusesAre, TypeRequestsAre, LinksAre, LinkStatusesAre, Hearing, MessagesAre, CellsAreNamed, BytesArePut};
 ghost use Rattle.module_laws.specs.InterfaceKeeps.{HoldsKept, PressedKept};
 
 // What alone changes the holds and the pressed buttons of a button interface.
 pub fn interface_keeping_laws() -> u8
     ensures holds { EveryButtonInterface HoldsKept }
     ensures pressed { EveryButtonInterface PressedKept }
+{
+    0
+}
+
+// What the laws rest on: which frames are commands, button statuses and type requests, who can be linked and whom a seat
+// hears, what a message carries, and how bytes are put into cells.
+pub fn frame_laws() -> u8
+    ensures commands { CommandsAre }
+    ensures statuses { StatusesAre }
+    ensures type_requests { TypeRequestsAre }
+    ensures links { LinksAre }
+    ensures link_statuses { LinkStatusesAre }
+    ensures hearing { Hearing }
+    ensures messages { MessagesAre }
+    ensures cells { CellsAreNamed }
+    ensures put { BytesArePut }
 {
     0
 }
