@@ -1,2 +1,3 @@
 mod InterfaceKeeps
 mod Frames
+mod Panel

@@ -1,2 +1,4 @@
 pub mod InterfaceKeeps
 pub mod Frames
+pub mod AllListed
+pub mod Panel

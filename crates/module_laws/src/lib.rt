@@ -2,9 +2,11 @@
 // stands in the contract of a function, so the crate is proved only if the law is.
 #![tactic(auto)]
 
-ghost use Rattle.kinds.specs.Kinds.{EveryButtonInterface};
+ghost use Rattle.kinds.specs.Kinds.{panel_kind, EveryPanel, EveryButtonInterface};
 ghost use Rattle.module_laws.specs.Frames.{CommandsAre, StatusesAre, TypeRequestsAre, LinksAre, LinkStatusesAre, Hearing, MessagesAre, CellsAreNamed, BytesArePut};
 ghost use Rattle.module_laws.specs.InterfaceKeeps.{HoldsKept, PressedKept};
+ghost use Rattle.module_laws.specs.Panel.{PanelKeeps, PanelReplies, LinksNobody};
+ghost use Rattle.panel.specs.declared.panel.PanelSetup.{PanelSetup};
 
 // What alone changes the holds and the pressed buttons of a button interface.
 pub fn interface_keeping_laws() -> u8
@@ -26,6 +28,15 @@ pub fn frame_laws() -> u8
     ensures messages { MessagesAre }
     ensures cells { CellsAreNamed }
     ensures put { BytesArePut }
+{
+    0
+}
+
+// What alone changes a panel, what it answers, and that it links nobody.
+pub fn panel_laws() -> u8
+    ensures nothing_else { EveryPanel PanelKeeps }
+    ensures replies { (s : PanelSetup) → PanelReplies s (panel_kind s) }
+    ensures no_links { EveryPanel LinksNobody }
 {
     0
 }
