@@ -1,3 +1,4 @@
 mod InterfaceKeeps
 mod Frames
 mod Panel
+mod AllSent

@@ -2,3 +2,4 @@ pub mod InterfaceKeeps
 pub mod Frames
 pub mod AllListed
 pub mod Panel
+pub mod AllSent

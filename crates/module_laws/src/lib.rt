@@ -2,7 +2,8 @@
 // stands in the contract of a function, so the crate is proved only if the law is.
 #![tactic(auto)]
 
-ghost use Rattle.kinds.specs.Kinds.{panel_kind, EveryPanel, EveryButtonInterface};
+ghost use Rattle.kinds.specs.Kinds.{panel_kind, EveryPanel, EveryButtonInterface, EveryModule};
+ghost use Rattle.module_laws.specs.AllSent.{SendsHeaded, SendsAsItself, AllButRelays, Sizes};
 ghost use Rattle.module_laws.specs.Frames.{CommandsAre, StatusesAre, TypeRequestsAre, LinksAre, LinkStatusesAre, Hearing, MessagesAre, CellsAreNamed, BytesArePut};
 ghost use Rattle.module_laws.specs.InterfaceKeeps.{HoldsKept, PressedKept};
 ghost use Rattle.module_laws.specs.Panel.{PanelKeeps, PanelReplies, LinksNobody};
@@ -37,6 +38,15 @@ pub fn panel_laws() -> u8
     ensures nothing_else { EveryPanel PanelKeeps }
     ensures replies { (s : PanelSetup) → PanelReplies s (panel_kind s) }
     ensures no_links { EveryPanel LinksNobody }
+{
+    0
+}
+
+// What holds of all modules.
+pub fn all_module_laws() -> u8
+    ensures priorities { EveryModule SendsHeaded }
+    ensures own_address { AllButRelays SendsAsItself }
+    ensures sizes { Sizes }
 {
     0
 }
