@@ -3,5 +3,5 @@ mod Records
 mod Replies
 pub mod Holding
 mod StatusBits
-mod Clocks
+pub mod Clocks
 mod Examples

@@ -2,3 +2,4 @@ mod InterfaceKeeps
 mod Frames
 mod Panel
 mod AllSent
+mod StateBytes

@@ -3,3 +3,4 @@ pub mod Frames
 pub mod AllListed
 pub mod Panel
 pub mod AllSent
+pub mod StateBytes

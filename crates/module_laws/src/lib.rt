@@ -2,11 +2,12 @@
 // stands in the contract of a function, so the crate is proved only if the law is.
 #![tactic(auto)]
 
-ghost use Rattle.kinds.specs.Kinds.{panel_kind, EveryPanel, EveryButtonInterface, EveryModule};
+ghost use Rattle.kinds.specs.Kinds.{panel_kind, EveryRelay, EveryPanel, EveryButtonInterface, EveryModule};
 ghost use Rattle.module_laws.specs.AllSent.{SendsHeaded, SendsAsItself, AllButRelays, Sizes};
 ghost use Rattle.module_laws.specs.Frames.{CommandsAre, StatusesAre, TypeRequestsAre, LinksAre, LinkStatusesAre, Hearing, MessagesAre, CellsAreNamed, BytesArePut};
 ghost use Rattle.module_laws.specs.InterfaceKeeps.{HoldsKept, PressedKept};
 ghost use Rattle.module_laws.specs.Panel.{PanelKeeps, PanelReplies, LinksNobody};
+ghost use Rattle.module_laws.specs.StateBytes.{RelayBytes, PanelBytes, HasAlways, ChannelsAreRead};
 ghost use Rattle.panel.specs.declared.panel.PanelSetup.{PanelSetup};
 
 // What alone changes the holds and the pressed buttons of a button interface.
@@ -47,6 +48,15 @@ pub fn all_module_laws() -> u8
     ensures priorities { EveryModule SendsHeaded }
     ensures own_address { AllButRelays SendsAsItself }
     ensures sizes { Sizes }
+{
+    0
+}
+
+// Which state bytes modules have, and how they are read.
+pub fn state_byte_laws() -> u8
+    ensures relay { EveryRelay (HasAlways RelayBytes 16) }
+    ensures panel { EveryPanel (HasAlways PanelBytes 4) }
+    ensures channels_read { ChannelsAreRead }
 {
     0
 }
