@@ -3,3 +3,4 @@ mod Frames
 mod Panel
 mod AllSent
 mod StateBytes
+mod StateBytesInterface

@@ -194,3 +194,29 @@ channels_are_read r channel_1 = record { open_at = read_open r.state 0; closed_a
 channels_are_read r channel_2 = record { open_at = read_open r.state 4; closed_at = read_closed r.state 4; running_at = read_running r.state 4 }
 channels_are_read r channel_3 = record { open_at = read_open r.state 8; closed_at = read_closed r.state 8; running_at = read_running r.state 8 }
 channels_are_read r channel_4 = record { open_at = read_open r.state 12; closed_at = read_closed r.state 12; running_at = read_running r.state 12 }
+
+-- the bytes of a channel from what it is
+written_at : (s : List ℕ) (i : ℕ) → ChannelBytes s i → (x : Contact) → contact_at s i ≡ x → Stand s i (code x) (time x / 65536) (time x / 256 % 256) (time x % 256)
+written_at s i h x e =
+    let same : contact_bytes x ≡ four s i = ap contact_bytes (sym e) ∙ written_back s i h in
+    record { first = sym (ap (λ t. get_or t 0 0) same); second = sym (ap (λ t. get_or t 1 0) same); third = sym (ap (λ t. get_or t 2 0) same); fourth = sym (ap (λ t. get_or t 3 0) same) }
+
+channel_written : (r : Record) (c : ChannelNumber) → of_channel c (contacts r) ≡ contact_at r.state (4 * index c) → ChannelBytes r.state (4 * index c) → ChannelWritten r c
+channel_written r c at h =
+    record {
+      open_at = λ e. written_at r.state (4 * index c) h opened (sym at ∙ e);
+      closed_at = λ e. written_at r.state (4 * index c) h closed (sym at ∙ e);
+      running_at = λ n e. written_at r.state (4 * index c) h (running n) (sym at ∙ e);
+    }
+
+pub channels_are_written : EveryRelay ChannelsAreWritten
+channels_are_written s own r e c b h = by c
+  where
+    such : RelayBytes ((relay_kind s).acts own r e).after.state
+    such = relay_after s own r e h
+
+    by : (c : ChannelNumber) → ChannelWritten ((relay_kind s).acts own r e).after c
+    by channel_1 = channel_written _ channel_1 refl (such.channel channel_1)
+    by channel_2 = channel_written _ channel_2 refl (such.channel channel_2)
+    by channel_3 = channel_written _ channel_3 refl (such.channel channel_3)
+    by channel_4 = channel_written _ channel_4 refl (such.channel channel_4)

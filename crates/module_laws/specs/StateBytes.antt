@@ -58,11 +58,11 @@ pub record HasAlways (Such : List ℕ → Type 0) (state_bytes : ℕ) (k : Kind)
   pub after : (own : ℕ) (r : Record) (e : Event) → OfBytes e → Such r.state → Such (k.acts own r e).after.state
   pub always : (own : ℕ) (es : List Event) → AllByRecursion OfBytes es → Such (later k own (new_seat k own state_bytes).content es).state
 
--- each kind has such state bytes as are said above
-pub record StateBytesAre : Type 0 where
-  pub relay : EveryRelay (HasAlways RelayBytes 16)
-  pub panel : EveryPanel (HasAlways PanelBytes 4)
-  pub buttons : EveryButtonInterface (HasAlways InterfaceBytes 32)
+-- a law that speaks of the state bytes that a kind has holds of each module
+pub record EveryModuleWith (Law : (List ℕ → Type 0) → Kind → Type 0) : Type 0 where
+  pub relay : EveryRelay (Law RelayBytes)
+  pub panel : EveryPanel (Law PanelBytes)
+  pub buttons : EveryButtonInterface (Law InterfaceBytes)
 
 -- a channel of a relay is open where its first byte is 0, closed where it is 1, and where it is 3 it runs for the time in
 -- the next three, high byte first

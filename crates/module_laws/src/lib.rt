@@ -7,7 +7,7 @@ ghost use Rattle.module_laws.specs.AllSent.{SendsHeaded, SendsAsItself, AllButRe
 ghost use Rattle.module_laws.specs.Frames.{CommandsAre, StatusesAre, TypeRequestsAre, LinksAre, LinkStatusesAre, Hearing, MessagesAre, CellsAreNamed, BytesArePut};
 ghost use Rattle.module_laws.specs.InterfaceKeeps.{HoldsKept, PressedKept};
 ghost use Rattle.module_laws.specs.Panel.{PanelKeeps, PanelReplies, LinksNobody};
-ghost use Rattle.module_laws.specs.StateBytes.{RelayBytes, PanelBytes, HasAlways, ChannelsAreRead};
+ghost use Rattle.module_laws.specs.StateBytes.{RelayBytes, PanelBytes, InterfaceBytes, HasAlways, ChannelsAreRead, ChannelsAreWritten, InterfacesAreRead};
 ghost use Rattle.panel.specs.declared.panel.PanelSetup.{PanelSetup};
 
 // What alone changes the holds and the pressed buttons of a button interface.
@@ -56,7 +56,10 @@ pub fn all_module_laws() -> u8
 pub fn state_byte_laws() -> u8
     ensures relay { EveryRelay (HasAlways RelayBytes 16) }
     ensures panel { EveryPanel (HasAlways PanelBytes 4) }
+    ensures buttons { EveryButtonInterface (HasAlways InterfaceBytes 32) }
     ensures channels_read { ChannelsAreRead }
+    ensures channels_written { EveryRelay ChannelsAreWritten }
+    ensures interface_read { InterfacesAreRead }
 {
     0
 }
