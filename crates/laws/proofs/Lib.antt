@@ -4,7 +4,7 @@ pub mod Pairs
 mod LampFrames
 pub mod Times
 pub mod Commands
-mod Cells
+pub mod Cells
 mod Blocks
 mod MemoryReads
 mod Pushing

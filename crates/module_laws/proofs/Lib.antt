@@ -4,3 +4,4 @@ mod Panel
 mod AllSent
 mod StateBytes
 mod StateBytesInterface
+mod AllMemory

@@ -15,9 +15,9 @@ use Rattle.panel.specs.declared.panel.PanelSetup.{PanelSetup}
 use Rattle.panel.specs.Panels.{lamps, pressed, status_sent, type_sent}
 use Rattle.panel.specs.Panels.{design as panel_design}
 use Rattle.kinds.specs.Kinds.{panel_kind, EveryPanel}
-use Rattle.module_laws.specs.AllListed.{is_one_of}
+use Rattle.module_laws.specs.AllListed.{is_one_of, lamp_commands}
 use Rattle.module_laws.specs.InterfaceKeeps.{PressedKept}
-use Rattle.module_laws.specs.Panel.{lamp_commands, LampsKept, PanelKeeps, PanelReplies, LinksNobody}
+use Rattle.module_laws.specs.Panel.{LampsKept, PanelKeeps, PanelReplies, LinksNobody}
 
 -- what no lamp command leaves
 pub lamps_same : (l : Lamps) (f : Frame) → is_one_of lamp_commands f ≡ false → lamps_after l f ≡ l

@@ -6,7 +6,7 @@ use Rattle.station.specs.declared.event.Event.{Event}
 use Rattle.station.specs.declared.event.Event.TheVariants.{Heard, Second, Pushed}
 use Rattle.station.specs.Kinds.{Record, Kind, from_link}
 use Rattle.kinds.specs.Kinds.{EveryRelay, EveryPanel, EveryButtonInterface}
-use Rattle.module_laws.specs.AllListed.{is_one_of}
+use Rattle.module_laws.specs.AllListed.{is_one_of, memory_commands, lamp_commands}
 use Rattle.module_laws.specs.AllMemory.{NothingComes}
 use Rattle.module_laws.specs.StateBytes.{RelayBytes, PanelBytes, InterfaceBytes}
 
@@ -18,12 +18,6 @@ pub record ActsOn : Type 0 where
   pub links : Bool
   pub seconds : Bool
   pub pushes : Bool
-
-abbrev pub memory_commands : List (Frame → Bool)
-memory_commands = is_command 0xFC 4 ∷ is_command 0xCA 7 ∷ is_command 0xFD 3 ∷ is_command 0xC9 3 ∷ []
-
-abbrev pub lamp_commands : List (Frame → Bool)
-lamp_commands = is_command 0xF4 4 ∷ is_command 0xF5 2 ∷ is_command 0xF6 2 ∷ is_command 0xF7 2 ∷ is_command 0xF8 2 ∷ is_command 0xF9 2 ∷ []
 
 abbrev pub of_relay : ActsOn
 of_relay =

@@ -4,3 +4,5 @@ pub mod AllListed
 pub mod Panel
 pub mod AllSent
 pub mod StateBytes
+pub mod AllMemory
+pub mod AllUnlisted

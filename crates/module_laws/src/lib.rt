@@ -3,11 +3,12 @@
 #![tactic(auto)]
 
 ghost use Rattle.kinds.specs.Kinds.{panel_kind, EveryRelay, EveryPanel, EveryButtonInterface, EveryModule};
+ghost use Rattle.module_laws.specs.AllMemory.{OutOfRange, MemoryObeyed, CellsKept};
 ghost use Rattle.module_laws.specs.AllSent.{SendsHeaded, SendsAsItself, AllButRelays, Sizes};
 ghost use Rattle.module_laws.specs.Frames.{CommandsAre, StatusesAre, TypeRequestsAre, LinksAre, LinkStatusesAre, Hearing, MessagesAre, CellsAreNamed, BytesArePut};
 ghost use Rattle.module_laws.specs.InterfaceKeeps.{HoldsKept, PressedKept};
 ghost use Rattle.module_laws.specs.Panel.{PanelKeeps, PanelReplies, LinksNobody};
-ghost use Rattle.module_laws.specs.StateBytes.{RelayBytes, PanelBytes, InterfaceBytes, HasAlways, ChannelsAreRead, ChannelsAreWritten, InterfacesAreRead};
+ghost use Rattle.module_laws.specs.StateBytes.{RelayBytes, PanelBytes, InterfaceBytes, EveryModuleWith, HasAlways, ChannelsAreRead, ChannelsAreWritten, InterfacesAreRead};
 ghost use Rattle.panel.specs.declared.panel.PanelSetup.{PanelSetup};
 
 // What alone changes the holds and the pressed buttons of a button interface.
@@ -48,6 +49,9 @@ pub fn all_module_laws() -> u8
     ensures priorities { EveryModule SendsHeaded }
     ensures own_address { AllButRelays SendsAsItself }
     ensures sizes { Sizes }
+    ensures out_of_range { EveryModuleWith OutOfRange }
+    ensures memory { EveryModuleWith MemoryObeyed }
+    ensures cells_kept { EveryModule CellsKept }
 {
     0
 }

@@ -1,3 +1,4 @@
+use Rattle.module_laws.proofs.AllMemory.{nothing_out_of_range, memory_obeyed, cells_kept}
 use Rattle.module_laws.proofs.AllSent.{sends_headed, send_as_themselves, sizes}
 use Rattle.module_laws.proofs.all_module_laws.Goals as goal
 
@@ -7,4 +8,7 @@ returns c =
       priorities = sends_headed;
       own_address = send_as_themselves;
       sizes = sizes;
+      out_of_range = nothing_out_of_range;
+      memory = memory_obeyed;
+      cells_kept = cells_kept;
     }
