@@ -5,3 +5,4 @@ mod AllSent
 mod StateBytes
 mod StateBytesInterface
 mod AllMemory
+mod AllUnlisted

@@ -5,6 +5,7 @@
 ghost use Rattle.kinds.specs.Kinds.{panel_kind, EveryRelay, EveryPanel, EveryButtonInterface, EveryModule};
 ghost use Rattle.module_laws.specs.AllMemory.{OutOfRange, MemoryObeyed, CellsKept};
 ghost use Rattle.module_laws.specs.AllSent.{SendsHeaded, SendsAsItself, AllButRelays, Sizes};
+ghost use Rattle.module_laws.specs.AllUnlisted.{EveryUnlistedIgnored};
 ghost use Rattle.module_laws.specs.Frames.{CommandsAre, StatusesAre, TypeRequestsAre, LinksAre, LinkStatusesAre, Hearing, MessagesAre, CellsAreNamed, BytesArePut};
 ghost use Rattle.module_laws.specs.InterfaceKeeps.{HoldsKept, PressedKept};
 ghost use Rattle.module_laws.specs.Panel.{PanelKeeps, PanelReplies, LinksNobody};
@@ -52,6 +53,7 @@ pub fn all_module_laws() -> u8
     ensures out_of_range { EveryModuleWith OutOfRange }
     ensures memory { EveryModuleWith MemoryObeyed }
     ensures cells_kept { EveryModule CellsKept }
+    ensures unlisted { EveryUnlistedIgnored }
 {
     0
 }
