@@ -7,6 +7,6 @@ pub mod Commands
 pub mod Cells
 mod Blocks
 mod MemoryReads
-mod Pushing
+pub mod Pushing
 mod LampModes
 mod WorkedLines

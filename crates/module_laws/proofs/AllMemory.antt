@@ -1,26 +1,24 @@
 -- What commands on the memory do to the cells of any module, and what they answer. Assumes nothing.
-use Rattle.std.proofs.Common.{◌≡◌, ℕ, zero, suc, ◌+◌, ◌*◌, ◌<◌, ◌≤◌, Bool, true, false, cond, ◌&&◌, ◌||◌, ◌⊎◌, eqb, leb, List, [], ◌∷◌, ◌++◌, length, get_or, None, Option, sym, refl, ap, ◌∙◌, subst, arith}
+use Rattle.std.proofs.Common.{◌≡◌, ℕ, zero, suc, ◌+◌, ◌<◌, ◌≤◌, true, false, cond, ◌&&◌, ◌||◌, eqb, leb, List, [], ◌∷◌, length, get_or, None, sym, refl, ap, ◌∙◌, subst, arith}
 use lib.Bits.{bit_and}
 use Rattle.std.proofs.lemmas.Bool.{cond-true, cond-false, cond_both, and_right, or_parts, or_from, or_left, or_right, le-leb, lt-leb, eqb-true}
 use Rattle.bus.specs.declared.frame.Frame.{Frame}
-use Rattle.bus.specs.Frames.{byte, is_command, message}
+use Rattle.bus.specs.Frames.{byte, is_command}
 use Rattle.bus.proofs.Commands.{other_command}
 use Rattle.station.specs.declared.edge.Edge.{Edge}
 use Rattle.station.specs.declared.event.Event.TheVariants.{Heard, Second, Pushed}
-use Rattle.station.specs.Kinds.{Record, Outcome, Kind}
+use Rattle.station.specs.Kinds.{Record, Outcome}
 use Rattle.station.specs.Rules.{cell, payload, put, stored}
 use Rattle.station.proofs.Puts.{length-put, put_inside, put_outside}
-use Rattle.module.specs.declared.lamps.Lamps.{Lamps}
 use Rattle.module.specs.Designs.{Design, idle, answered, designed}
 use Rattle.module.specs.Memories.{cell_frame, block_frame, in_memory, memory_sent}
 use Rattle.module.proofs.Answered.{at_own}
 use Rattle.module.proofs.Unwritten.{stored_unwritten}
-use Rattle.timing.specs.Times.{Time}
 use Rattle.interface.specs.declared.setup.InterfaceSetup.{InterfaceSetup}
 use Rattle.interface.specs.Channels.{held_after}
 use Rattle.interface.specs.Interfaces.{clock_after}
 use Rattle.interface.specs.Interfaces.{commanded as interface_commanded}
-use Rattle.interface.specs.States.{State, encoded, decoded}
+use Rattle.interface.specs.States.{encoded, decoded}
 use Rattle.buttons.specs.Buttons.{design as buttons_design}
 use Rattle.panel.specs.declared.panel.PanelSetup.{PanelSetup}
 use Rattle.panel.specs.Panels.{lamps, pressed}

@@ -1,9 +1,8 @@
 -- On which events each kind of module acts; of all others nothing comes. Assumes nothing.
-use Rattle.std.proofs.Common.{◌≡◌, ℕ, Bool, true, false, ◌&&◌, ◌||◌, eqb, List, [], ◌∷◌, ◌++◌, None, Option, refl, ap, ◌∙◌, inl, inr}
-use lib.Bits.{bit_and}
-use Rattle.std.proofs.lemmas.Bool.{true≢false, both_ways, cases_Bool, cond-true, cond-false, cond_both, and_left, and_right, or_parts, or_from, eqb-true}
+use Rattle.std.proofs.Common.{◌≡◌, ℕ, Bool, false, ◌&&◌, eqb, List, [], ◌∷◌, ◌++◌, None, refl, ap, ◌∙◌, inl, inr}
+use Rattle.std.proofs.lemmas.Bool.{true≢false, both_ways, cases_Bool, cond-false, cond_both, and_left, and_right, or_parts, or_from, eqb-true}
 use Rattle.bus.specs.declared.frame.Frame.{Frame}
-use Rattle.bus.specs.Frames.{byte, is_command, is_type_request}
+use Rattle.bus.specs.Frames.{is_command, is_type_request}
 use Rattle.station.specs.declared.event.Event.TheVariants.{Heard, Second, Pushed}
 use Rattle.station.specs.Kinds.{Record, Outcome, from_link}
 use Rattle.station.specs.Rules.{stored}
@@ -13,7 +12,7 @@ use Rattle.module.proofs.Unwritten.{stored_unwritten}
 use Rattle.interface.specs.declared.setup.InterfaceSetup.{InterfaceSetup}
 use Rattle.interface.specs.Interfaces.{clock_after, clock_sent, status_sent, type_sent}
 use Rattle.interface.specs.Interfaces.{commanded as interface_commanded}
-use Rattle.interface.specs.States.{State, encoded, decoded}
+use Rattle.interface.specs.States.{encoded, decoded}
 use Rattle.buttons.specs.Buttons.{variant}
 use Rattle.buttons.specs.Buttons.{design as buttons_design}
 use Rattle.panel.specs.declared.panel.PanelSetup.{PanelSetup}
@@ -30,7 +29,7 @@ use Rattle.module_laws.specs.AllMemory.{NothingComes}
 use Rattle.module_laws.specs.AllUnlisted.{of_relay, of_panel, of_interface, UnlistedIgnored, EveryUnlistedIgnored}
 use Rattle.module_laws.specs.StateBytes.{RelayBytes, PanelBytes, InterfaceBytes}
 use Rattle.module_laws.proofs.AllMemory.{same_record, relay_stays, panel_stays, interface_stays}
-use Rattle.module_laws.proofs.Panel.{no_memory, lamps_same}
+use Rattle.module_laws.proofs.Panel.{no_memory}
 use Rattle.module_laws.proofs.StateBytesInterface.{interface_told}
 
 nothing : (r : Record) → NothingComes r (idle r)

@@ -6,3 +6,4 @@ mod StateBytes
 mod StateBytesInterface
 mod AllMemory
 mod AllUnlisted
+mod AllPushes

@@ -1,11 +1,8 @@
 -- Which state bytes modules have, and how those of relays and button interfaces are read. Assumes nothing.
-use Rattle.std.proofs.Common.{◌≡◌, ℕ, zero, suc, ◌+◌, ◌-◌, ◌*◌, ◌/◌, ◌%◌, ◌^◌, ◌<◌, ◌≤◌, min, max, Bool, true, false, cond, not, ◌&&◌, ◌||◌, ◌⊎◌, eqb, leb, List, [], ◌∷◌, ◌++◌, length, drop, get_or, Some, None, Option, inl, inr, sym, refl, ap, ◌∙◌, subst, arith, length-append}
-use lib.Bits.{bit_and, bit_or}
-use Rattle.std.specs.List.{AllByRecursion, flat_map}
-use Rattle.std.proofs.ByRecursion.{All-append}
-use Rattle.std.proofs.lemmas.Bool.{cond-true, cond-false, cond_both, eq-eqb, eqb-true}
+use Rattle.std.proofs.Common.{◌≡◌, ℕ, zero, suc, ◌+◌, ◌-◌, ◌*◌, ◌/◌, ◌%◌, ◌<◌, Bool, ◌⊎◌, eqb, leb, List, [], ◌∷◌, ◌++◌, length, drop, get_or, Some, None, Option, inl, inr, sym, refl, ap, ◌∙◌, subst, arith}
+use Rattle.std.specs.List.{AllByRecursion}
+use Rattle.std.proofs.lemmas.Bool.{cond-true, cond-false, cond_both, eq-eqb}
 use Rattle.std.proofs.lemmas.List.{drop_more, drop_all}
-use Rattle.bus.specs.declared.frame.Frame.{Frame}
 use Rattle.station.specs.declared.event.Event.{Event}
 use Rattle.station.specs.declared.event.Event.TheVariants.{Heard, Second, Pushed}
 use Rattle.station.specs.Kinds.{Record, Kind, Outcome}
@@ -25,7 +22,7 @@ use Rattle.relay.specs.Relays.{design as relay_design}
 use Rattle.relay.specs.Tables.{action_of}
 use Rattle.laws.specs.Channels.{ChannelNumber, channel_1, channel_2, channel_3, channel_4, index, of_channel}
 use Rattle.kinds.specs.Kinds.{relay_kind, panel_kind, EveryRelay, EveryPanel}
-use Rattle.module_laws.specs.StateBytes.{Stand, StandRunning, RelayBytes, PanelBytes, InterfaceBytes, OfBytes, HasAlways, ChannelRead, ChannelsAreRead, ChannelWritten, ChannelsAreWritten}
+use Rattle.module_laws.specs.StateBytes.{Stand, StandRunning, RelayBytes, PanelBytes, OfBytes, HasAlways, ChannelsAreRead, ChannelWritten, ChannelsAreWritten}
 
 -- n numbers of a list from a place on
 abbrev pub part : List ℕ → ℕ → ℕ → List ℕ

@@ -1,5 +1,5 @@
 -- Which state bytes button interfaces have, and how they are read. Assumes nothing.
-use Rattle.std.proofs.Common.{◌≡◌, ℕ, zero, suc, ◌+◌, ◌-◌, ◌*◌, ◌/◌, ◌%◌, ◌^◌, ◌<◌, ◌≤◌, min, Bool, true, false, cond, not, ◌&&◌, ◌||◌, eqb, leb, ltb, List, [], ◌∷◌, ◌++◌, length, get_or, Some, None, Option, inl, inr, sym, refl, ap, ◌∙◌, subst, arith, length-append}
+use Rattle.std.proofs.Common.{◌≡◌, ℕ, zero, suc, ◌+◌, ◌-◌, ◌*◌, ◌/◌, ◌%◌, ◌<◌, ◌≤◌, Bool, true, false, cond, ◌&&◌, ◌||◌, eqb, leb, ltb, List, [], ◌∷◌, ◌++◌, length, get_or, Some, None, Option, sym, refl, ap, ◌∙◌, subst, arith, length-append}
 use lib.Bits.{bit_and, bit_or}
 use Rattle.std.specs.List.{AllByRecursion, flat_map}
 use Rattle.std.proofs.ByRecursion.{All-append}
@@ -20,7 +20,7 @@ use Rattle.module.specs.LampBytes.{marked, in_mode, lamps_after}
 use Rattle.module.specs.Pushes.{bit, down, possible, accepted, after_edge, pressed_after}
 use Rattle.timing.specs.declared.locking.Locking.{Locking}
 use Rattle.timing.specs.declared.locking.Locking.TheVariants.{Lock, Toggle, Unlock}
-use Rattle.timing.specs.Holds.{locked, hold_for, obeyed, ticked}
+use Rattle.timing.specs.Holds.{locked, hold_for, obeyed}
 use Rattle.timing.specs.Times.{Time, Real, real, set_to, next, a_second_later}
 use Rattle.interface.specs.declared.setup.InterfaceSetup.{InterfaceSetup}
 use Rattle.interface.specs.Channels.{hold_on, on_named, held_after, all_ticked}
@@ -32,8 +32,8 @@ use Rattle.buttons.specs.Buttons.{variant}
 use Rattle.buttons.specs.Buttons.{design as buttons_design}
 use Rattle.kinds.specs.Kinds.{buttons_kind, EveryButtonInterface}
 use Rattle.button_laws.proofs.Eight.{length-held_after, length-ticked, length-by_records}
-use Rattle.module_laws.specs.StateBytes.{InterfaceBytes, OfBytes, HasAlways, InterfaceRead, InterfacesAreRead}
-use Rattle.module_laws.proofs.StateBytes.{part, spread, always_so}
+use Rattle.module_laws.specs.StateBytes.{InterfaceBytes, OfBytes, HasAlways, InterfacesAreRead}
+use Rattle.module_laws.proofs.StateBytes.{spread, always_so}
 
 abbrev Byte : ℕ → Type 0
 Byte b = b < 256
@@ -78,10 +78,20 @@ state_bytes x h =
     let t = x.clock in
     let clock : List ℕ = t.day ∷ t.hour ∷ t.minute ∷ t.second ∷ [] in
     let c = h.clock in
-    let all : AllByRecursion Byte (encoded x) =
-    (h.lamps.on, (h.lamps.slow, (h.lamps.fast, (h.pressed,
-    All-append Byte (flat_map hold_bytes x.holds) clock (holds_small x.holds h.holds)
-    (omega (arith, c.day), (omega (arith, c.hour), (omega (arith, c.minute), (omega (arith, c.second), tt)))))))) in
+    let all : AllByRecursion Byte (encoded x) = (
+      h.lamps.on,
+      (
+        h.lamps.slow,
+        (
+          h.lamps.fast,
+          (
+            h.pressed,
+            All-append Byte (flat_map hold_bytes x.holds) clock (holds_small x.holds h.holds)
+                (omega (arith, c.day), (omega (arith, c.hour), (omega (arith, c.minute), (omega (arith, c.second), tt)))),
+          ),
+        ),
+      ),
+    ) in
     record {
       count = omega (arith, length-append (flat_map hold_bytes x.holds) clock, length-holds x.holds, h.eight);
       bytes = byte_at (encoded x) all;
@@ -284,7 +294,7 @@ interface_always s =
       always = λ own es all. always_so (buttons_kind s) InterfaceBytes own (λ r e b h. interface_after s own r e b h) _ es all new_interface;
     }
 
-holds_read : (s : List ℕ) (channel : ℕ) → 1 ≤ channel → channel ≤ 8 → hold_on (decoded s).holds channel ≡ get_or s (4 + 3 * (channel - 1)) 0 * 65536 + get_or s (5 + 3 * (channel - 1)) 0 * 256 + get_or s (6 + 3 * (channel - 1)) 0
+pub holds_read : (s : List ℕ) (channel : ℕ) → 1 ≤ channel → channel ≤ 8 → hold_on (decoded s).holds channel ≡ get_or s (4 + 3 * (channel - 1)) 0 * 65536 + get_or s (5 + 3 * (channel - 1)) 0 * 256 + get_or s (6 + 3 * (channel - 1)) 0
 holds_read s zero l h = absurd (omega arith)
 holds_read s (suc zero) l h = refl
 holds_read s (suc (suc zero)) l h = refl

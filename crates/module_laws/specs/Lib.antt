@@ -6,3 +6,4 @@ pub mod AllSent
 pub mod StateBytes
 pub mod AllMemory
 pub mod AllUnlisted
+pub mod AllPushes

@@ -1,13 +1,12 @@
 -- Which state bytes modules have, and how those of relays and button interfaces are read. Assumes nothing.
 use Rattle.std.specs.Prelude.{◌≡◌, ℕ, ◌+◌, ◌-◌, ◌*◌, ◌/◌, ◌%◌, ◌<◌, ◌≤◌, ◌⊎◌, List, length, slice_index}
 use Rattle.std.specs.List.{AllByRecursion}
-use Rattle.bus.specs.declared.frame.Frame.{Frame}
 use Rattle.station.specs.declared.event.Event.{Event}
 use Rattle.station.specs.declared.event.Event.TheVariants.{Heard, Second, Pushed}
 use Rattle.station.specs.Kinds.{Record, Kind}
 use Rattle.station.specs.Rules.{later}
 use Rattle.interface.specs.Channels.{hold_on}
-use Rattle.interface.specs.States.{State, decoded}
+use Rattle.interface.specs.States.{decoded}
 use Rattle.relay.specs.Contacts.{opened, closed, running}
 use Rattle.relay.specs.Relays.{contacts}
 use Rattle.laws.specs.Channels.{ChannelNumber, index, of_channel}

@@ -4,9 +4,10 @@
 
 ghost use Rattle.kinds.specs.Kinds.{panel_kind, EveryRelay, EveryPanel, EveryButtonInterface, EveryModule};
 ghost use Rattle.module_laws.specs.AllMemory.{OutOfRange, MemoryObeyed, CellsKept};
+ghost use Rattle.module_laws.specs.AllPushes.{EveryPushTold};
 ghost use Rattle.module_laws.specs.AllSent.{SendsHeaded, SendsAsItself, AllButRelays, Sizes};
 ghost use Rattle.module_laws.specs.AllUnlisted.{EveryUnlistedIgnored};
-ghost use Rattle.module_laws.specs.Frames.{CommandsAre, StatusesAre, TypeRequestsAre, LinksAre, LinkStatusesAre, Hearing, MessagesAre, CellsAreNamed, BytesArePut};
+ghost use Rattle.module_laws.specs.Frames.{CommandsAre, StatusesAre, TypeRequestsAre, LinksAre, LinkStatusesAre, Hearing, MessagesAre, CellsAreNamed, BytesArePut, BitsAre};
 ghost use Rattle.module_laws.specs.InterfaceKeeps.{HoldsKept, PressedKept};
 ghost use Rattle.module_laws.specs.Panel.{PanelKeeps, PanelReplies, LinksNobody};
 ghost use Rattle.module_laws.specs.StateBytes.{RelayBytes, PanelBytes, InterfaceBytes, EveryModuleWith, HasAlways, ChannelsAreRead, ChannelsAreWritten, InterfacesAreRead};
@@ -21,7 +22,7 @@ pub fn interface_keeping_laws() -> u8
 }
 
 // What the laws rest on: which frames are commands, button statuses and type requests, who can be linked and whom a seat
-// hears, what a message carries, and how bytes are put into cells.
+// hears, what a message carries, how bytes are put into cells, and what a bit is.
 pub fn frame_laws() -> u8
     ensures commands { CommandsAre }
     ensures statuses { StatusesAre }
@@ -32,6 +33,7 @@ pub fn frame_laws() -> u8
     ensures messages { MessagesAre }
     ensures cells { CellsAreNamed }
     ensures put { BytesArePut }
+    ensures bits { BitsAre }
 {
     0
 }
@@ -54,6 +56,7 @@ pub fn all_module_laws() -> u8
     ensures memory { EveryModuleWith MemoryObeyed }
     ensures cells_kept { EveryModule CellsKept }
     ensures unlisted { EveryUnlistedIgnored }
+    ensures pushes { EveryPushTold }
 {
     0
 }

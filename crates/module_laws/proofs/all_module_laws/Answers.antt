@@ -1,5 +1,6 @@
 use Rattle.module_laws.proofs.AllMemory.{nothing_out_of_range, memory_obeyed, cells_kept}
 use Rattle.module_laws.proofs.AllSent.{sends_headed, send_as_themselves, sizes}
+use Rattle.module_laws.proofs.AllPushes.{every_push_told}
 use Rattle.module_laws.proofs.AllUnlisted.{unlisted_ignored}
 use Rattle.module_laws.proofs.all_module_laws.Goals as goal
 
@@ -13,4 +14,5 @@ returns c =
       memory = memory_obeyed;
       cells_kept = cells_kept;
       unlisted = unlisted_ignored;
+      pushes = every_push_told;
     }
