@@ -1,10 +1,10 @@
 pub mod Bits
-mod Sending
+pub mod Sending
 pub mod Pairs
 mod LampFrames
 pub mod Times
 pub mod Commands
-mod Cells
+pub mod Cells
 mod Blocks
 mod MemoryReads
 pub mod Pushing

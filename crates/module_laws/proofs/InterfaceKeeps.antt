@@ -28,7 +28,9 @@ use Rattle.button_laws.specs.Interfaces.{hold as decoded_hold}
 use Rattle.button_laws.specs.Holding.{AsksNothing, commands, record_acts}
 use Rattle.button_laws.proofs.Holding.{hold_moves}
 use Rattle.module_laws.specs.InterfaceStates.{names_channel}
-use Rattle.module_laws.specs.InterfaceKeeps.{record_asks, AsksNoHold, HoldsKept, PressedKept, is_lamp_command, NoLampCommand, LampsKept, NoTimeSet, ClockKept}
+use Rattle.module_laws.specs.LampCommands.{AsksNoLamp, LampsKept}
+use Rattle.module_laws.proofs.LampCommands.{lamps_same, below_three}
+use Rattle.module_laws.specs.InterfaceKeeps.{record_asks, AsksNoHold, HoldsKept, PressedKept, NoTimeSet, ClockKept}
 use Rattle.module_laws.proofs.InterfaceStates.{same_hold, same_bit}
 
 -- what is a lock or an unlock
@@ -104,36 +106,23 @@ pressed_kept s own r (Heard f) h =
 pressed_kept s own r Second h = refl
 pressed_kept s own r (Pushed p) h = ap (λ (o : Outcome). get_or o.after.state 3 0) (cond-false (eqb p.address own) _ _ (ne_eqb p.address own h))
 
--- what is no lamp command leaves the lamps
-no_lamps : (l : Lamps) (f : Frame) → is_lamp_command f ≡ false → lamps_after l f ≡ l
-no_lamps l f none =
-    let a = or_parts (is_command 0xF4 4 f) _ none in
-    let b = or_parts (is_command 0xF5 2 f) _ a.1 in
-    let c = or_parts (is_command 0xF6 2 f) _ b.1 in
-    let d = or_parts (is_command 0xF7 2 f) _ c.1 in
-    let e = or_parts (is_command 0xF8 2 f) (is_command 0xF9 2 f) d.1 in
-    cond-false (is_command 0xF4 4 f) _ _ a.0
-    ∙ (cond-false (is_command 0xF5 2 f) _ _ b.0
-    ∙ (cond-false (is_command 0xF6 2 f) _ _ c.0
-    ∙ (cond-false (is_command 0xF7 2 f) _ _ d.0 ∙ (cond-false (is_command 0xF8 2 f) _ _ e.0 ∙ cond-false (is_command 0xF9 2 f) _ _ e.1))))
-
 -- the lamps that the state bytes tell
 abbrev lamps_of : Record → Lamps
 lamps_of r = (decoded r.state).lamps
 
-lamps_stay : (s : InterfaceSetup) (own : ℕ) (r : Record) (e : Event) → NoLampCommand own e → lamps_of ((buttons_kind s).acts own r e).after ≡ lamps_of r
+lamps_stay : (s : InterfaceSetup) (own : ℕ) (r : Record) (e : Event) → AsksNoLamp own e → lamps_of ((buttons_kind s).acts own r e).after ≡ lamps_of r
 lamps_stay s own r (Heard f) h =
     let Same : Outcome → Type 0 = λ o. lamps_of o.after ≡ lamps_of r in
-    cond_both (eqb f.address own) _ _ Same (λ here. no_lamps (lamps_of r) f (h (eqb-true f.address own here)))
+    cond_both (eqb f.address own) _ _ Same (λ here. lamps_same (lamps_of r) f (h (eqb-true f.address own here)))
     (λ _. cond_both (eqb f.address 0) _ _ Same (λ _. refl) (λ _. cond_both (from_link (buttons_kind s) own r f) _ _ Same (λ _. refl) (λ _. refl)))
 lamps_stay s own r Second h = refl
 lamps_stay s own r (Pushed p) h = cond_both (eqb p.address own) _ _ (λ (o : Outcome). lamps_of o.after ≡ lamps_of r) (λ _. refl) (λ _. refl)
 
 pub lamps_kept : EveryButtonInterface LampsKept
-lamps_kept s own r e h zero l = ap (λ x. x.on) (lamps_stay s own r e h)
-lamps_kept s own r e h (suc zero) l = ap (λ x. x.slow) (lamps_stay s own r e h)
-lamps_kept s own r e h (suc (suc zero)) l = ap (λ x. x.fast) (lamps_stay s own r e h)
-lamps_kept s own r e h (suc (suc (suc i))) l = absurd (omega arith)
+lamps_kept s own r e i h l =
+    let same = lamps_stay s own r e h in
+    let q = ((buttons_kind s).acts own r e).after in
+    below_three (λ n. get_or q.state n 0 ≡ get_or r.state n 0) (ap (λ x. x.on) same) (ap (λ x. x.slow) same) (ap (λ x. x.fast) same) i l
 
 -- what does not set the clock leaves it
 time_stays : (s : InterfaceSetup) (own : ℕ) (r : Record) (e : Event) → NoTimeSet e → time ((buttons_kind s).acts own r e).after ≡ time r

@@ -1,6 +1,6 @@
 -- What the lamp commands make of each lamp of a panel and of a button interface. Assumes nothing.
-use Rattle.std.proofs.Common.{◌≡◌, ℕ, ◌-◌, ◌/◌, ◌%◌, ◌^◌, true, false, get_or, sym, refl, ap, ◌∙◌, arith}
-use Rattle.std.proofs.lemmas.Bool.{cond-true, cond-false, eq-eqb, ne_eqb}
+use Rattle.std.proofs.Common.{◌≡◌, ℕ, ◌-◌, ◌/◌, ◌%◌, ◌^◌, ◌<◌, zero, suc, true, false, get_or, sym, refl, ap, ◌∙◌, arith}
+use Rattle.std.proofs.lemmas.Bool.{cond-true, cond-false, eq-eqb, ne_eqb, or_parts}
 use Rattle.bus.specs.declared.frame.Frame.{Frame}
 use Rattle.bus.specs.Frames.{byte, is_command}
 use Rattle.station.specs.declared.event.Event.TheVariants.{Heard}
@@ -19,6 +19,7 @@ use Rattle.buttons.specs.Buttons.{design as buttons_design}
 use Rattle.laws.specs.LampModes.{Light, light, shining, asks_for, LampsObey, EveryKindWithLamps}
 use Rattle.laws.proofs.Bits.{bit_one, bit_named}
 use Rattle.laws.proofs.LampModes.{lamps_obey}
+use Rattle.module_laws.specs.AllListed.{is_one_of, lamp_commands}
 use Rattle.module_laws.specs.LampCommands.{lamp_bit, LampIs, Puts, LampsPut}
 
 -- a bit as a number
@@ -82,3 +83,23 @@ lamps_put =
       panel = λ s. all_put (panel_design s) (λ own r f. refl) (lamps_obey.panel s);
       buttons = λ s. all_put (buttons_design s) (λ own r f. refl) (lamps_obey.buttons s);
     }
+
+-- what is no lamp command leaves the lamps
+pub lamps_same : (l : Lamps) (f : Frame) → is_one_of lamp_commands f ≡ false → lamps_after l f ≡ l
+lamps_same l f h =
+    let a = or_parts (is_command 0xF4 4 f) _ h in
+    let b = or_parts (is_command 0xF5 2 f) _ a.1 in
+    let c = or_parts (is_command 0xF6 2 f) _ b.1 in
+    let d = or_parts (is_command 0xF7 2 f) _ c.1 in
+    let e = or_parts (is_command 0xF8 2 f) _ d.1 in
+    let g = or_parts (is_command 0xF9 2 f) _ e.1 in
+    cond-false (is_command 0xF4 4 f) _ _ a.0
+    ∙ (cond-false (is_command 0xF5 2 f) _ _ b.0
+    ∙ (cond-false (is_command 0xF6 2 f) _ _ c.0 ∙ (cond-false (is_command 0xF7 2 f) _ _ d.0 ∙ (cond-false (is_command 0xF8 2 f) _ _ e.0 ∙ cond-false (is_command 0xF9 2 f) _ _ g.0))))
+
+-- what holds of each number below 3
+pub below_three : (P : ℕ → Type 0) → P 0 → P 1 → P 2 → (i : ℕ) → i < 3 → P i
+below_three P a b c zero l = a
+below_three P a b c (suc zero) l = b
+below_three P a b c (suc (suc zero)) l = c
+below_three P a b c (suc (suc (suc n))) l = absurd (omega arith)

@@ -5,6 +5,13 @@ mod InterfaceRecords
 mod InterfaceReplies
 mod InterfaceClock
 mod LampCommands
-mod ButtonEdges
 mod InterfaceTimes
 mod InterfaceCells
+mod Frames
+mod Panel
+mod AllSent
+mod StateBytes
+mod StateBytesInterface
+mod AllMemory
+mod AllUnlisted
+mod AllPushes

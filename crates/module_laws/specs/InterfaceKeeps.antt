@@ -41,22 +41,6 @@ NoPush own (Pushed p) = p.address ≢ own
 abbrev pub PressedKept : Kind → Type 0
 PressedKept k = (own : ℕ) (r : Record) (e : Event) → NoPush own e → pressed_bits (k.acts own r e).after ≡ pressed_bits r
 
--- the frame is a lamp command: F4 with four bytes, or one of F5 to F9 with two
-abbrev pub is_lamp_command : Frame → Bool
-is_lamp_command f =
-    is_command 0xF4 4 f || (is_command 0xF5 2 f || (is_command 0xF6 2 f || (is_command 0xF7 2 f || (is_command 0xF8 2 f || is_command 0xF9 2 f))))
-
--- the event is none at the own address
-abbrev pub NoLampCommand : ℕ → Event → Type 0
-NoLampCommand own (Heard f) = f.address ≡ own → is_lamp_command f ≡ false
-NoLampCommand own Second = Unit
-NoLampCommand own (Pushed p) = Unit
-
--- such an event leaves the lamps, state bytes 0, 1 and 2, as they were
-abbrev pub LampsKept : Kind → Type 0
-LampsKept k =
-    (own : ℕ) (r : Record) (e : Event) → NoLampCommand own e → (i : ℕ) → i < 3 → slice_index (k.acts own r e).after.state i ≡ slice_index r.state i
-
 -- the event is no second, and no D8 with four bytes at address 0
 abbrev pub NoTimeSet : Event → Type 0
 NoTimeSet (Heard f) = f.address ≡ 0 → is_command 0xD8 4 f ≡ false

@@ -1,9 +1,11 @@
--- What the lamp commands make of each lamp of a panel and of a button interface. Assumes nothing.
-use Rattle.std.specs.Prelude.{◌≡◌, ℕ, ◌-◌, ◌/◌, ◌%◌, ◌^◌, ◌<◌, ◌≤◌, true, slice_index}
+-- What the lamp commands make of each lamp of a panel and of a button interface, and that nothing else changes one. Assumes nothing.
+use Rattle.std.specs.Prelude.{◌≡◌, ℕ, ◌-◌, ◌/◌, ◌%◌, ◌^◌, ◌<◌, ◌≤◌, true, false, slice_index}
 use Rattle.bus.specs.declared.frame.Frame.{Frame}
 use Rattle.bus.specs.Frames.{is_command}
-use Rattle.station.specs.declared.event.Event.TheVariants.{Heard}
+use Rattle.station.specs.declared.event.Event.{Event}
+use Rattle.station.specs.declared.event.Event.TheVariants.{Heard, Second, Pushed}
 use Rattle.station.specs.Kinds.{Record, Kind}
+use Rattle.module_laws.specs.AllListed.{is_one_of, lamp_commands}
 
 -- the bit of a lamp, 1 to 8, in a byte: bit 0 is that of lamp 1
 abbrev pub lamp_bit : ℕ → ℕ → ℕ
@@ -37,3 +39,13 @@ pub record LampsPut (k : Kind) : Type 0 where
   pub puts_slow : Puts k 0xF7 0 1 0
   pub puts_fast : Puts k 0xF8 0 0 1
   pub puts_very_fast : Puts k 0xF9 0 1 1
+
+-- the event is no command for lamps at the own address
+abbrev pub AsksNoLamp : ℕ → Event → Type 0
+AsksNoLamp own (Heard f) = f.address ≡ own → is_one_of lamp_commands f ≡ false
+AsksNoLamp own Second = Unit
+AsksNoLamp own (Pushed p) = Unit
+
+-- such an event leaves the first three state bytes, the lamps, as they were
+abbrev pub LampsKept : Kind → Type 0
+LampsKept k = (own : ℕ) (r : Record) (e : Event) (i : ℕ) → AsksNoLamp own e → i < 3 → slice_index (k.acts own r e).after.state i ≡ slice_index r.state i

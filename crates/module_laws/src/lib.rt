@@ -2,17 +2,24 @@
 // stands in the contract of a function, so the crate is proved only if the law is.
 #![tactic(auto)]
 
-ghost use Rattle.kinds.specs.Kinds.{EveryButtonInterface};
+ghost use Rattle.kinds.specs.Kinds.{panel_kind, EveryRelay, EveryPanel, EveryButtonInterface, EveryModule};
 ghost use Rattle.laws.specs.LampModes.{EveryKindWithLamps};
-ghost use Rattle.module_laws.specs.ButtonEdges.{EveryEdgeShown};
+ghost use Rattle.module_laws.specs.AllMemory.{OutOfRange, MemoryObeyed, CellsKept};
+ghost use Rattle.module_laws.specs.AllPushes.{EveryPushTold};
+ghost use Rattle.module_laws.specs.AllSent.{SendsHeaded, SendsAsItself, AllButRelays, Sizes};
+ghost use Rattle.module_laws.specs.AllUnlisted.{EveryUnlistedIgnored};
+ghost use Rattle.module_laws.specs.Frames.{CommandsAre, StatusesAre, TypeRequestsAre, LinksAre, LinkStatusesAre, Hearing, MessagesAre, CellsAreNamed, BytesArePut, BitsAre};
 ghost use Rattle.module_laws.specs.InterfaceCells.{OtherCellsIgnored};
 ghost use Rattle.module_laws.specs.InterfaceClock.{ClockSet, ClockMoves};
-ghost use Rattle.module_laws.specs.InterfaceKeeps.{HoldsKept, PressedKept, LampsKept, ClockKept};
+ghost use Rattle.module_laws.specs.InterfaceKeeps.{HoldsKept, PressedKept, ClockKept};
 ghost use Rattle.module_laws.specs.InterfaceLocks.{LocksObeyed, SecondsCount};
 ghost use Rattle.module_laws.specs.InterfaceRecords.{RecordsObeyed, OneLastHold, RecordsLink};
 ghost use Rattle.module_laws.specs.InterfaceReplies.{StatusTold, TypeTold, TimeTold, SilentElse};
 ghost use Rattle.module_laws.specs.InterfaceTimes.{HoldsRun};
-ghost use Rattle.module_laws.specs.LampCommands.{LampsPut};
+ghost use Rattle.module_laws.specs.LampCommands.{LampsPut, LampsKept};
+ghost use Rattle.module_laws.specs.Panel.{PanelKeeps, PanelReplies, LinksNobody};
+ghost use Rattle.module_laws.specs.StateBytes.{RelayBytes, PanelBytes, InterfaceBytes, EveryModuleWith, HasAlways, ChannelsAreRead, ChannelsAreWritten, InterfacesAreRead};
+ghost use Rattle.panel.specs.declared.panel.PanelSetup.{PanelSetup};
 
 // What alone changes the holds, the pressed buttons, the lamps and the clock of a button interface.
 pub fn interface_keeping_laws() -> u8
@@ -68,9 +75,54 @@ pub fn lamp_command_laws() -> u8
     0
 }
 
-// What a push at a button of a panel or of a button interface does.
-pub fn push_edge_laws() -> u8
-    ensures edges { EveryEdgeShown }
+// What the laws rest on: which frames are commands, button statuses and type requests, who can be linked and whom a seat
+// hears, what a message carries, how bytes are put into cells, and what a bit is.
+pub fn frame_laws() -> u8
+    ensures commands { CommandsAre }
+    ensures statuses { StatusesAre }
+    ensures type_requests { TypeRequestsAre }
+    ensures links { LinksAre }
+    ensures link_statuses { LinkStatusesAre }
+    ensures hearing { Hearing }
+    ensures messages { MessagesAre }
+    ensures cells { CellsAreNamed }
+    ensures put { BytesArePut }
+    ensures bits { BitsAre }
+{
+    0
+}
+
+// What alone changes a panel, what it answers, and that it links nobody.
+pub fn panel_laws() -> u8
+    ensures nothing_else { EveryPanel PanelKeeps }
+    ensures replies { (s : PanelSetup) → PanelReplies s (panel_kind s) }
+    ensures no_links { EveryPanel LinksNobody }
+{
+    0
+}
+
+// What holds of all modules.
+pub fn all_module_laws() -> u8
+    ensures priorities { EveryModule SendsHeaded }
+    ensures own_address { AllButRelays SendsAsItself }
+    ensures sizes { Sizes }
+    ensures out_of_range { EveryModuleWith OutOfRange }
+    ensures memory { EveryModuleWith MemoryObeyed }
+    ensures cells_kept { EveryModule CellsKept }
+    ensures unlisted { EveryUnlistedIgnored }
+    ensures pushes { EveryPushTold }
+{
+    0
+}
+
+// Which state bytes modules have, and how they are read.
+pub fn state_byte_laws() -> u8
+    ensures relay { EveryRelay (HasAlways RelayBytes 16) }
+    ensures panel { EveryPanel (HasAlways PanelBytes 4) }
+    ensures buttons { EveryButtonInterface (HasAlways InterfaceBytes 32) }
+    ensures channels_read { ChannelsAreRead }
+    ensures channels_written { EveryRelay ChannelsAreWritten }
+    ensures interface_read { InterfacesAreRead }
 {
     0
 }
