@@ -1,4 +1,5 @@
 pub mod Bits
+pub mod CountingCells
 pub mod Sending
 pub mod Pairs
 mod LampFrames

@@ -1,4 +1,5 @@
 pub mod Channels
+pub mod CountingCells
 pub mod Sending
 pub mod Pairs
 pub mod LampFrames

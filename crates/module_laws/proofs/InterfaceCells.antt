@@ -21,12 +21,9 @@ use Rattle.interface.specs.States.{State, encoded, decoded}
 use Rattle.buttons.specs.Buttons.{variant}
 use Rattle.buttons.specs.Buttons.{design as buttons_design}
 use Rattle.kinds.specs.Kinds.{buttons_kind, EveryButtonInterface}
-use Rattle.module_laws.specs.InterfaceCells.{SameLinks, AlikeRecords, reads, ActAlike, OtherCellsIgnored}
-
-first_same : (test other : ℕ → Bool) (i n : ℕ) → ((q : ℕ) → q < i + n → test q ≡ other q) → first test i n ≡ first other i n
-unfolding first
-first_same test other i zero h = refl
-first_same test other i (suc n) h = λ j. cond (h i (omega arith) j) (Some i) (first_same test other (suc i) n (λ q l. h q (omega arith)) j)
+use Rattle.laws.specs.CountingCells.{SameWhere, AlikeRecords, reads, ActAlike}
+use Rattle.laws.proofs.CountingCells.{first_same, stored_alike, ignored}
+use Rattle.module_laws.specs.InterfaceCells.{Counts, RecordsAloneCount}
 
 in_turn_same : (act other : ℕ → List ℕ → List ℕ) (i n : ℕ) → ((k : ℕ) → k < i + n → (hs : List ℕ) → act k hs ≡ other k hs) → (hs : List ℕ) → in_turn act i n hs ≡ in_turn other i n hs
 unfolding in_turn
@@ -34,9 +31,9 @@ in_turn_same act other i zero h hs = refl
 in_turn_same act other i (suc n) h hs =
     in_turn_same act other (suc i) n (λ k l. h k (omega arith)) (act i hs) ∙ ap (in_turn other (suc i) n) (h i (omega arith) hs)
 
-module _ (cells others : List ℕ) (alike : SameLinks cells others) where
+module _ (cells others : List ℕ) (alike : SameWhere Counts cells others) where
   byte_same : (k n : ℕ) → k < 51 → n < 5 → link_byte cells k n ≡ link_byte others k n
-  byte_same k n l m = alike.same (0x0100 + 5 * k + n) (omega arith) (omega arith)
+  byte_same k n l m = alike.same (0x0100 + 5 * k + n) (omega arith, omega arith)
 
   names_same : (a : ℕ) → named cells a ≡ named others a
   names_same a = ap is_some (first_same (bears cells a) (bears others a) 0 51 (λ k l. ap (λ b. eqb b a) (byte_same k 0 (omega arith) (omega arith))))
@@ -50,41 +47,15 @@ module _ (cells others : List ℕ) (alike : SameLinks cells others) where
   records_same : (f : Frame) (hs : List ℕ) → by_records 0xFF cells f hs ≡ by_records 0xFF others f hs
   records_same f hs = in_turn_same (by_record 0xFF cells f) (by_record 0xFF others f) 0 51 (λ k l. record_same f k (omega arith)) hs
 
--- bytes put into both
-set_alike : (cells others : List ℕ) (at b : ℕ) → SameLinks cells others → at < length cells → SameLinks (set cells at b) (set others at b)
-set_alike cells others at b alike l =
-    record {
-      size = length-set cells at b ∙ (alike.size ∙ sym (length-set others at b));
-      same = λ a low high. elim (cases_eq a at) [
-        | inl e ↦
-            ap (λ n. get_or (set cells at b) n 0) e
-            ∙ (get_or-set_same cells at b 0 l ∙ (sym (get_or-set_same others at b 0 (omega (arith, alike.size))) ∙ ap (λ n. get_or (set others at b) n 0) (sym e)))
-        | inr d ↦ get_or-set_other cells at a b 0 d ∙ (alike.same a low high ∙ sym (get_or-set_other others at a b 0 d))
-      ];
-    }
-
-put_alike : (bs cells others : List ℕ) (at : ℕ) → SameLinks cells others → at + length bs ≤ length cells → SameLinks (put cells at bs) (put others at bs)
-put_alike [] cells others at alike l = alike
-put_alike (b ∷ bs) cells others at alike l =
-    put_alike bs (set cells at b) (set others at b) (at + 1) (set_alike cells others at b alike (omega arith)) (omega (arith, length-set cells at b))
-
-stored_alike : (cells others : List ℕ) (f : Frame) → SameLinks cells others → SameLinks (stored cells f) (stored others f)
-stored_alike cells others f alike =
-    let n : ℕ = cell f + length (payload f) in
-    let there : leb n (length others) ≡ leb n (length cells) = ap (leb n) (sym alike.size) in
-    cond_both (leb n (length cells)) (put cells (cell f) (payload f)) cells (λ t. SameLinks t (stored others f))
-    (λ fits. subst (SameLinks (put cells (cell f) (payload f))) (sym (cond-true (leb n (length others)) _ _ (there ∙ fits))) (put_alike (payload f) cells others (cell f) alike (leb-true n (length cells) fits)))
-    (λ past. subst (SameLinks cells) (sym (cond-false (leb n (length others)) _ _ (there ∙ past))) alike)
-
 -- no question has no answer
 no_memory : (own : ℕ) (cells : List ℕ) (f : Frame) → is_command 0xFD 3 f ≡ false → is_command 0xC9 3 f ≡ false → is_command 0xCA 7 f ≡ false → memory_sent own cells f ≡ []
 no_memory own cells f a b c =
     cond-false (is_command 0xFD 3 f) _ _ a ∙ cond-false (is_command 0xC9 3 f || is_command 0xCA 7 f) _ _ (or_from (is_command 0xC9 3 f) (is_command 0xCA 7 f) b c)
 
-module _ (s : InterfaceSetup) (own : ℕ) (r q : Record) (h : AlikeRecords r q) where
+module _ (s : InterfaceSetup) (own : ℕ) (r q : Record) (h : AlikeRecords Counts r q) where
   -- two outcomes of an event
   record AlikeOutcomes (e : Event) (o p : Outcome) : Type 0 where
-    after : AlikeRecords o.after p.after
+    after : AlikeRecords Counts o.after p.after
     sent : reads own e ≡ false → o.sent ≡ p.sent
 
   was : decoded r.state ≡ decoded q.state
@@ -97,7 +68,7 @@ module _ (s : InterfaceSetup) (own : ℕ) (r q : Record) (h : AlikeRecords r q) 
   command_alike f at =
       let asks : Bool = is_command 0xFD 3 f || (is_command 0xC9 3 f || is_command 0xCA 7 f) in
       record {
-        after = record { cells = stored_alike r.cells q.cells f h.cells; state = ap (λ x. encoded (after_command variant x f)) was };
+        after = record { cells = stored_alike Counts r.cells q.cells f h.cells; state = ap (λ x. encoded (after_command variant x f)) was };
         sent = λ quiet.
             let one = or_parts (is_command 0xFD 3 f) (is_command 0xC9 3 f || is_command 0xCA 7 f) (sym (ap (λ b. b && asks) at) ∙ quiet) in
             let two = or_parts (is_command 0xC9 3 f) (is_command 0xCA 7 f) one.1 in
@@ -148,10 +119,8 @@ module _ (s : InterfaceSetup) (own : ℕ) (r q : Record) (h : AlikeRecords r q) 
       (λ _. record { after = record { cells = h.cells; state = ap (λ x. encoded (after_push variant x p.channel p.edge)) was }; sent = λ _. ap (λ x. pushed_sent variant own x p.channel p.edge) was })
       (λ _. idle_alike (Pushed p))
 
-  act_alike : ActAlike (buttons_kind s) own r q
+  act_alike : ActAlike Counts (buttons_kind s) own r q
   act_alike = record { linking = links_alike; after = λ e. (event_alike e).after; sent = λ e. (event_alike e).sent }
 
-pub other_cells_ignored : EveryButtonInterface OtherCellsIgnored
-other_cells_ignored s own r q h [] = act_alike s own r q h
-other_cells_ignored s own r q h (e ∷ es) =
-    other_cells_ignored s own ((buttons_kind s).acts own r e).after ((buttons_kind s).acts own q e).after ((act_alike s own r q h).after e) es
+pub records_alone_count : EveryButtonInterface RecordsAloneCount
+records_alone_count s = ignored Counts (buttons_kind s) (act_alike s)

@@ -9,7 +9,7 @@ ghost use Rattle.module_laws.specs.AllPushes.{EveryPushTold};
 ghost use Rattle.module_laws.specs.AllSent.{SendsHeaded, SendsAsItself, AllButRelays, Sizes};
 ghost use Rattle.module_laws.specs.AllUnlisted.{EveryUnlistedIgnored};
 ghost use Rattle.module_laws.specs.Frames.{CommandsAre, StatusesAre, TypeRequestsAre, LinksAre, LinkStatusesAre, Hearing, MessagesAre, CellsAreNamed, BytesArePut, BitsAre};
-ghost use Rattle.module_laws.specs.InterfaceCells.{OtherCellsIgnored};
+ghost use Rattle.module_laws.specs.InterfaceCells.{RecordsAloneCount};
 ghost use Rattle.module_laws.specs.InterfaceClock.{ClockSet, ClockMoves};
 ghost use Rattle.module_laws.specs.InterfaceKeeps.{HoldsKept, PressedKept, ClockKept};
 ghost use Rattle.module_laws.specs.InterfaceLocks.{LocksObeyed, SecondsCount};
@@ -45,7 +45,7 @@ pub fn interface_record_laws() -> u8
     ensures record_actions { EveryButtonInterface RecordsObeyed }
     ensures one_last_hold { OneLastHold }
     ensures links { EveryButtonInterface RecordsLink }
-    ensures other_cells { EveryButtonInterface OtherCellsIgnored }
+    ensures other_cells { EveryButtonInterface RecordsAloneCount }
 {
     0
 }

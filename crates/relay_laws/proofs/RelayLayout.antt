@@ -23,12 +23,14 @@ use Rattle.relay.specs.Channels.{numbered}
 use Rattle.relay.specs.Relays.{design as relay_design}
 use Rattle.relay.specs.Tables.{pair_cell, matches, first_pair, named_in, named, in_common}
 use Rattle.laws.specs.Channels.{ChannelNumber, channel_1, channel_2, channel_3, channel_4, index, of_channel}
+use Rattle.laws.specs.CountingCells.{SameWhere, AlikeRecords, reads, ActAlike}
+use Rattle.laws.proofs.CountingCells.{first_same, stored_alike, ignored}
 use Rattle.laws.specs.Pairs.{FirstMatch, NoMatch}
 use Rattle.laws.proofs.Pairs.{first_pair_found, no_pair_found, first_match_obeyed, no_match_kept}
 use Rattle.kinds.specs.Kinds.{relay_kind, EveryRelay}
 use Rattle.relay_laws.specs.RelayReports.{fits}
 use Rattle.relay_laws.proofs.RelayReports.{no_memory}
-use Rattle.relay_laws.specs.RelayLayout.{place, pair_fits, FirstFits, within_range, becomes, Row, NoneFits, be_open, be_closed, run_timer_1, run_timer_2, ActionsObeyed, SomePairBears, PairsLink, Idle, Alike, AlikeRecords, reads, ActAlike, IdleCellsIgnored}
+use Rattle.relay_laws.specs.RelayLayout.{place, pair_fits, FirstFits, within_range, becomes, Row, NoneFits, be_open, be_closed, run_timer_1, run_timer_2, ActionsObeyed, SomePairBears, PairsLink, Idle, Counts, IdleCellsIgnored}
 
 -- a pair of the definitions is one of a table
 counted : (c : ChannelNumber) (t i : ℕ) → pair_cell (index c) (15 * t + i) ≡ place c t i
@@ -222,12 +224,7 @@ counts_too : (c q : ℕ) → q < 120 → (q / 15 ≢ 3) → Idle (pair_cell c q 
 counts_too c q l d (inl h) = d (let low : 90 ≤ (256 * c + 2 * q + 1) % 256 = h.0 in let high : (256 * c + 2 * q + 1) % 256 < 120 = h.1 in omega arith)
 counts_too c q l d (inr h) = omega arith
 
-first_same : (test other : ℕ → Bool) (i n : ℕ) → ((q : ℕ) → q < i + n → test q ≡ other q) → first test i n ≡ first other i n
-unfolding first
-first_same test other i zero h = refl
-first_same test other i (suc n) h = λ j. cond (h i (omega arith) j) (Some i) (first_same test other (suc i) n (λ q l. h q (omega arith)) j)
-
-module _ (cells others : List ℕ) (alike : Alike cells others) where
+module _ (cells others : List ℕ) (alike : SameWhere Counts cells others) where
   match_same : (c : ℕ) (s : Query) (q : ℕ) → q < 120 → matches cells c s q ≡ matches others c s q
   match_same c s q l =
       elim (cases_eq (q / 15) 3) [
@@ -256,36 +253,10 @@ module _ (cells others : List ℕ) (alike : Alike cells others) where
           let other : not (eqb (q / 15) 3) ≡ true = (and_parts (not (eqb (q / 15) 3)) _ m.matching).0 in
           ap Some (alike.same (pair_cell c q + 1) (counts_too c q m.in_table (λ z. absurd (both_ways (eqb (q / 15) 3) (not-true (eqb (q / 15) 3) other) (eq-eqb (q / 15) 3 z)))))
 
--- bytes put into both
-set_alike : (cells others : List ℕ) (at b : ℕ) → Alike cells others → at < length cells → Alike (set cells at b) (set others at b)
-set_alike cells others at b alike l =
-    record {
-      size = length-set cells at b ∙ (alike.size ∙ sym (length-set others at b));
-      same = λ a h. elim (cases_eq a at) [
-        | inl e ↦
-            ap (λ n. get_or (set cells at b) n 0) e
-            ∙ (get_or-set_same cells at b 0 l ∙ (sym (get_or-set_same others at b 0 (omega (arith, alike.size))) ∙ ap (λ n. get_or (set others at b) n 0) (sym e)))
-        | inr d ↦ get_or-set_other cells at a b 0 d ∙ (alike.same a h ∙ sym (get_or-set_other others at a b 0 d))
-      ];
-    }
-
-put_alike : (bs cells others : List ℕ) (at : ℕ) → Alike cells others → at + length bs ≤ length cells → Alike (put cells at bs) (put others at bs)
-put_alike [] cells others at alike l = alike
-put_alike (b ∷ bs) cells others at alike l =
-    put_alike bs (set cells at b) (set others at b) (at + 1) (set_alike cells others at b alike (omega arith)) (omega (arith, length-set cells at b))
-
-stored_alike : (cells others : List ℕ) (f : Frame) → Alike cells others → Alike (stored cells f) (stored others f)
-stored_alike cells others f alike =
-    let n : ℕ = cell f + length (payload f) in
-    let there : leb n (length others) ≡ leb n (length cells) = ap (leb n) (sym alike.size) in
-    cond_both (leb n (length cells)) (put cells (cell f) (payload f)) cells (λ t. Alike t (stored others f))
-    (λ fits. subst (Alike (put cells (cell f) (payload f))) (sym (cond-true (leb n (length others)) _ _ (there ∙ fits))) (put_alike (payload f) cells others (cell f) alike (leb-true n (length cells) fits)))
-    (λ past. subst (Alike cells) (sym (cond-false (leb n (length others)) _ _ (there ∙ past))) alike)
-
-module _ (s : RelaySetup) (own : ℕ) (r q : Record) (h : AlikeRecords r q) where
+module _ (s : RelaySetup) (own : ℕ) (r q : Record) (h : AlikeRecords Counts r q) where
   -- two outcomes of an event
   record AlikeOutcomes (e : Event) (o p : Outcome) : Type 0 where
-    after : AlikeRecords o.after p.after
+    after : AlikeRecords Counts o.after p.after
     sent : reads own e ≡ false → o.sent ≡ p.sent
 
   was : contacts r ≡ contacts q
@@ -298,7 +269,7 @@ module _ (s : RelaySetup) (own : ℕ) (r q : Record) (h : AlikeRecords r q) wher
   command_alike f at =
       let asks : Bool = is_command 0xFD 3 f || (is_command 0xC9 3 f || is_command 0xCA 7 f) in
       record {
-        after = record { cells = stored_alike r.cells q.cells f h.cells; state = ap (λ x. state_of (carried_out (commanded f) (named_channels f) x)) was };
+        after = record { cells = stored_alike Counts r.cells q.cells f h.cells; state = ap (λ x. state_of (carried_out (commanded f) (named_channels f) x)) was };
         sent = λ quiet.
             let one = or_parts (is_command 0xFD 3 f) (is_command 0xC9 3 f || is_command 0xCA 7 f) (sym (ap (λ b. b && asks) at) ∙ quiet) in
             let two = or_parts (is_command 0xC9 3 f) (is_command 0xCA 7 f) one.1 in
@@ -339,10 +310,8 @@ module _ (s : RelaySetup) (own : ℕ) (r q : Record) (h : AlikeRecords r q) wher
       }
   event_alike (Pushed p) = both (Pushed p) (eqb p.address own) (idle r) (idle r) (idle q) (idle q) (λ _. idle_alike (Pushed p)) (λ _. idle_alike (Pushed p))
 
-  act_alike : ActAlike (relay_kind s) own r q
+  act_alike : ActAlike Counts (relay_kind s) own r q
   act_alike = record { linking = links_alike; after = λ e. (event_alike e).after; sent = λ e. (event_alike e).sent }
 
 pub idle_cells_ignored : EveryRelay IdleCellsIgnored
-idle_cells_ignored s own r q h [] = act_alike s own r q h
-idle_cells_ignored s own r q h (e ∷ es) =
-    idle_cells_ignored s own ((relay_kind s).acts own r e).after ((relay_kind s).acts own q e).after ((act_alike s own r q h).after e) es
+idle_cells_ignored s = ignored Counts (relay_kind s) (act_alike s)

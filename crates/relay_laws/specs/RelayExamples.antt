@@ -12,7 +12,8 @@ use Rattle.relay.specs.Relays.{contacts}
 use Rattle.laws.specs.Channels.{channel_1, channel_2, of_channel}
 use Rattle.kinds.specs.Kinds.{relay_kind}
 use Rattle.relay_laws.specs.RelayCommands.{Asks}
-use Rattle.relay_laws.specs.RelayLayout.{FirstFits, NoneFits, SomePairBears, AlikeRecords}
+use Rattle.laws.specs.CountingCells.{AlikeRecords}
+use Rattle.relay_laws.specs.RelayLayout.{FirstFits, NoneFits, SomePairBears, Counts}
 use Rattle.relay_laws.specs.RelayReports.{Obeys}
 use Rattle.relay_laws.specs.RelayTimes.{NoneAsks}
 
@@ -47,7 +48,7 @@ pub record PairsFit (s : RelaySetup) : Type 0 where
   pub other_button : FirstFits linked.cells channel_1 (pressed 0x20 2) 5 0 → ⊥
   pub other_pair : FirstFits linked.cells channel_1 (pressed 0x20 1) 5 1 → ⊥
   pub bears : SomePairBears linked.cells 0x20
-  pub alike : AlikeRecords linked idly_changed
+  pub alike : AlikeRecords Counts linked idly_changed
 
 -- the commands ask for channel 2, and not for channel 1
 pub record CommandsAsk : Type 0 where

@@ -11,6 +11,7 @@ use Rattle.relay.specs.declared.timers.Timers.{Timers}
 use Rattle.relay.specs.Contacts.{Contact, opened, closed, running}
 use Rattle.relay.specs.Relays.{contacts}
 use Rattle.laws.specs.Channels.{ChannelNumber, index, of_channel}
+use Rattle.laws.specs.CountingCells.{OtherCellsIgnored}
 use Rattle.kinds.specs.Kinds.{relay_kind}
 
 -- where pair i of table t of a channel begins: with the address, then the button bits
@@ -93,29 +94,10 @@ PairsLink k =
 abbrev pub Idle : ℕ → Type 0
 Idle a = ((90 ≤ a % 256) × (a % 256 < 120)) ⊎ (240 ≤ a % 256)
 
--- two memories of one size that differ in such cells alone
-pub record Alike (cells others : List ℕ) : Type 0 where
-  pub size : length cells ≡ length others
-  pub same : (a : ℕ) → (Idle a → ⊥) → slice_index cells a ≡ slice_index others a
+-- the others
+abbrev pub Counts : ℕ → Type 0
+Counts a = Idle a → ⊥
 
--- two records with such memories and the same state
-pub record AlikeRecords (r q : Record) : Type 0 where
-  pub cells : Alike r.cells q.cells
-  pub state : r.state ≡ q.state
-
--- the event has cells sent: FD, C9 or CA at the own address
-abbrev pub reads : ℕ → Event → Bool
-reads own (Heard f) = f.address == own && (is_command 0xFD 3 f || (is_command 0xC9 3 f || is_command 0xCA 7 f))
-reads own Second = false
-reads own (Pushed p) = false
-
--- two relays with such records link the same addresses, do and send the same on each event, but for what cells it has
--- sent, and have such records after it
-pub record ActAlike (k : Kind) (own : ℕ) (r q : Record) : Type 0 where
-  pub linking : (a : ℕ) → links k own r a ≡ links k own q a
-  pub after : (e : Event) → AlikeRecords (k.acts own r e).after (k.acts own q e).after
-  pub sent : (e : Event) → reads own e ≡ false → (k.acts own r e).sent ≡ (k.acts own q e).sent
-
--- so they do after any list of events
+-- two relays whose memories differ in such cells alone link the same addresses and do and send the same after any events
 abbrev pub IdleCellsIgnored : Kind → Type 0
-IdleCellsIgnored k = (own : ℕ) (r q : Record) → AlikeRecords r q → (es : List Event) → ActAlike k own (later k own r es) (later k own q es)
+IdleCellsIgnored k = OtherCellsIgnored Counts k
