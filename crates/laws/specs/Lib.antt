@@ -1,5 +1,6 @@
 pub mod Channels
 pub mod CountingCells
+pub mod Numbers
 pub mod Sending
 pub mod Pairs
 pub mod LampFrames

@@ -16,7 +16,8 @@ use Rattle.button_laws.specs.Interfaces.{hold as decoded_hold}
 use Rattle.button_laws.specs.Holding.{names, commands}
 use Rattle.button_laws.proofs.Holding.{hold_moves, lock_sets_the_hold, unlock_frees}
 use Rattle.module_laws.specs.InterfaceStates.{hold, names_channel}
-use Rattle.module_laws.specs.InterfaceLocks.{seconds, LocksObeyed, SecondsCount}
+use Rattle.module_laws.specs.InterfaceLocks.{LocksObeyed, SecondsCount}
+use Rattle.laws.specs.Numbers.{seconds}
 use Rattle.module_laws.proofs.InterfaceStates.{same_hold, same_bit}
 
 module _ (s : InterfaceSetup) (own : ℕ) (r : Record) (f : Frame) (channel : ℕ) (low : 1 ≤ channel) (high : channel ≤ 8) (here : f.address ≡ own) where

@@ -8,7 +8,8 @@ use Rattle.station.specs.Rules.{later}
 use Rattle.interface.specs.declared.setup.InterfaceSetup.{InterfaceSetup}
 use Rattle.kinds.specs.Kinds.{buttons_kind, EveryButtonInterface}
 use Rattle.module_laws.specs.InterfaceStates.{hold}
-use Rattle.module_laws.specs.InterfaceTimes.{seconds_among, NoneAsksHold, Runs, HoldsRun}
+use Rattle.module_laws.specs.InterfaceTimes.{NoneAsksHold, Runs, HoldsRun}
+use Rattle.laws.specs.Numbers.{seconds_among}
 use Rattle.module_laws.proofs.InterfaceKeeps.{holds_kept}
 use Rattle.module_laws.proofs.InterfaceLocks.{seconds_count}
 

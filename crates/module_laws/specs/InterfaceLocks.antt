@@ -4,11 +4,8 @@ use Rattle.bus.specs.declared.frame.Frame.{Frame}
 use Rattle.bus.specs.Frames.{is_command}
 use Rattle.station.specs.declared.event.Event.TheVariants.{Heard, Second}
 use Rattle.station.specs.Kinds.{Record, Kind}
+use Rattle.laws.specs.Numbers.{seconds}
 use Rattle.module_laws.specs.InterfaceStates.{hold, names_channel}
-
--- the time in the third to the fifth byte, high byte first
-abbrev pub seconds : Frame → ℕ
-seconds f = slice_index f.bytes 2 * 65536 + slice_index f.bytes 3 * 256 + slice_index f.bytes 4
 
 -- the frame is the command with so many bytes, and its second byte names the channel
 abbrev pub Asks : ℕ → ℕ → Frame → ℕ → Type 0

@@ -4,15 +4,9 @@ use Rattle.station.specs.declared.event.Event.{Event}
 use Rattle.station.specs.declared.event.Event.TheVariants.{Heard, Second, Pushed}
 use Rattle.station.specs.Kinds.{Record, Kind}
 use Rattle.station.specs.Rules.{later}
+use Rattle.laws.specs.Numbers.{seconds_among}
 use Rattle.module_laws.specs.InterfaceStates.{hold}
 use Rattle.module_laws.specs.InterfaceKeeps.{AsksNoHold}
-
--- how many of the events are seconds
-abbrev pub seconds_among : List Event → ℕ
-seconds_among [] = 0
-seconds_among (Heard f ∷ es) = seconds_among es
-seconds_among (Second ∷ es) = 1 + seconds_among es
-seconds_among (Pushed p ∷ es) = seconds_among es
 
 -- no frame among the events, each at the record that the earlier ones led to, asks anything of the channel
 abbrev pub NoneAsksHold : Kind → ℕ → Record → ℕ → List Event → Type 0

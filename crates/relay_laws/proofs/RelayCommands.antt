@@ -19,7 +19,8 @@ use Rattle.relay.proofs.Decoded.{decoded}
 use Rattle.laws.specs.Channels.{ChannelNumber, channel_1, channel_2, channel_3, channel_4, of_channel}
 use Rattle.kinds.specs.Kinds.{relay_kind, EveryRelay}
 use Rattle.laws.proofs.Bits.{bit_named}
-use Rattle.relay_laws.specs.RelayCommands.{is_named, seconds, CommandsObeyed}
+use Rattle.relay_laws.specs.RelayCommands.{is_named, CommandsObeyed}
+use Rattle.laws.specs.Numbers.{seconds}
 
 pub named : (f : Frame) (c : ChannelNumber) → of_channel c (named_channels f) ≡ is_named f c
 named f channel_1 = bit_named (byte f 1) 0

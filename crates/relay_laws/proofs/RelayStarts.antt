@@ -9,7 +9,7 @@ use Rattle.relay.specs.Contacts.{Contact, opened, closed, running}
 use Rattle.relay.specs.Relays.{contacts}
 use Rattle.laws.specs.Channels.{ChannelNumber, of_channel}
 use Rattle.kinds.specs.Kinds.{relay_kind}
-use Rattle.relay_laws.specs.RelayCommands.{seconds}
+use Rattle.laws.specs.Numbers.{seconds}
 use Rattle.relay_laws.specs.RelayLayout.{within_range, becomes, be_open, run_timer_1, run_timer_2}
 use Rattle.relay_laws.specs.RelayStarts.{RunsFrom, TimesStarted}
 use Rattle.relay_laws.proofs.RelayCommands.{commands_obeyed}

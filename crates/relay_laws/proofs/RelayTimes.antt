@@ -28,7 +28,8 @@ use Rattle.kinds.specs.Kinds.{relay_kind, EveryRelay}
 use Rattle.relay_laws.specs.RelayCommands.{is_named}
 use Rattle.relay_laws.specs.RelayReports.{bit_of, channel_status, fits}
 use Rattle.relay_laws.specs.RelayListener.{sent_over}
-use Rattle.relay_laws.specs.RelayTimes.{AsksNothing, NoneAsks, seconds_among, has_channel, IsIn, TellsNoEnd, TellsEnd, TimesRun, ChannelsStay}
+use Rattle.relay_laws.specs.RelayTimes.{AsksNothing, NoneAsks, has_channel, IsIn, TellsNoEnd, TellsEnd, TimesRun, ChannelsStay}
+use Rattle.laws.specs.Numbers.{seconds_among}
 use Rattle.relay_laws.proofs.RelayCommands.{named, asks_none, unnamed_kept}
 use Rattle.relay_laws.proofs.RelayReports.{pair_found}
 use Rattle.relay_laws.proofs.RelayListener.{Bits, bits}

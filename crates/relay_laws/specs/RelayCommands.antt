@@ -7,6 +7,7 @@ use Rattle.station.specs.Kinds.{Record, Kind, from_link}
 use Rattle.relay.specs.Contacts.{Contact, opened, closed, running}
 use Rattle.relay.specs.Relays.{contacts}
 use Rattle.laws.specs.Channels.{ChannelNumber, channel_1, channel_2, channel_3, channel_4, of_channel}
+use Rattle.laws.specs.Numbers.{seconds}
 
 -- bits 0 to 3 of the second byte name the channels 1 to 4; bits 4 to 7 say nothing
 abbrev pub is_named : Frame → ChannelNumber → Bool
@@ -14,10 +15,6 @@ is_named f channel_1 = slice_index f.bytes 1 / 1 % 2 == 1
 is_named f channel_2 = slice_index f.bytes 1 / 2 % 2 == 1
 is_named f channel_3 = slice_index f.bytes 1 / 4 % 2 == 1
 is_named f channel_4 = slice_index f.bytes 1 / 8 % 2 == 1
-
--- the time in the third to the fifth byte, high byte first
-abbrev pub seconds : Frame → ℕ
-seconds f = slice_index f.bytes 2 * 65536 + slice_index f.bytes 3 * 256 + slice_index f.bytes 4
 
 -- each frame at the own address of which the first is true makes of the channel what the second says of it before and after
 abbrev pub MakesOf : Kind → (Frame → ChannelNumber → Type 0) → (Frame → Contact → Contact → Type 0) → Type 0

@@ -9,7 +9,8 @@ use Rattle.relay.specs.Contacts.{opened}
 use Rattle.relay.specs.Relays.{contacts}
 use Rattle.laws.specs.Channels.{ChannelNumber, of_channel}
 use Rattle.kinds.specs.Kinds.{relay_kind}
-use Rattle.relay_laws.specs.RelayCommands.{Asks, seconds}
+use Rattle.relay_laws.specs.RelayCommands.{Asks}
+use Rattle.laws.specs.Numbers.{seconds}
 use Rattle.relay_laws.specs.RelayLayout.{FirstFits, within_range}
 use Rattle.relay_laws.specs.RelayTimes.{NoneAsks, TimeRuns}
 

@@ -10,6 +10,7 @@ use Rattle.station.specs.Rules.{later}
 use Rattle.relay.specs.Contacts.{Contact, opened, closed, running}
 use Rattle.relay.specs.Relays.{contacts}
 use Rattle.laws.specs.Channels.{ChannelNumber, of_channel}
+use Rattle.laws.specs.Numbers.{seconds_among}
 use Rattle.relay_laws.specs.RelayCommands.{is_named}
 use Rattle.relay_laws.specs.RelayReports.{bit_of, channel_status, fits}
 use Rattle.relay_laws.specs.RelayListener.{sent_over}
@@ -27,13 +28,6 @@ AsksNothing k own c r (Pushed p) = Unit
 abbrev pub NoneAsks : Kind → ℕ → ChannelNumber → Record → List Event → Type 0
 NoneAsks k own c r [] = Unit
 NoneAsks k own c r (e ∷ es) = AsksNothing k own c r e × NoneAsks k own c (k.acts own r e).after es
-
--- how many of the events are seconds
-abbrev pub seconds_among : List Event → ℕ
-seconds_among [] = 0
-seconds_among (Heard f ∷ es) = seconds_among es
-seconds_among (Second ∷ es) = suc (seconds_among es)
-seconds_among (Pushed p ∷ es) = seconds_among es
 
 -- a byte has the bit of a channel
 abbrev pub has_channel : ℕ → ChannelNumber → Bool
