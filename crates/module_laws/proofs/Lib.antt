@@ -7,3 +7,4 @@ mod StateBytesInterface
 mod AllMemory
 mod AllUnlisted
 mod AllPushes
+mod AllNew

@@ -7,3 +7,4 @@ pub mod StateBytes
 pub mod AllMemory
 pub mod AllUnlisted
 pub mod AllPushes
+pub mod AllNew

@@ -4,6 +4,7 @@
 
 ghost use Rattle.kinds.specs.Kinds.{panel_kind, EveryRelay, EveryPanel, EveryButtonInterface, EveryModule};
 ghost use Rattle.module_laws.specs.AllMemory.{OutOfRange, MemoryObeyed, CellsKept};
+ghost use Rattle.module_laws.specs.AllNew.{NewModules, RecordsAreInPlace};
 ghost use Rattle.module_laws.specs.AllPushes.{EveryPushTold};
 ghost use Rattle.module_laws.specs.AllSent.{SendsHeaded, SendsAsItself, AllButRelays, Sizes};
 ghost use Rattle.module_laws.specs.AllUnlisted.{EveryUnlistedIgnored};
@@ -52,6 +53,7 @@ pub fn all_module_laws() -> u8
     ensures priorities { EveryModule SendsHeaded }
     ensures own_address { AllButRelays SendsAsItself }
     ensures sizes { Sizes }
+    ensures new { NewModules }
     ensures out_of_range { EveryModuleWith OutOfRange }
     ensures memory { EveryModuleWith MemoryObeyed }
     ensures cells_kept { EveryModule CellsKept }
@@ -66,6 +68,7 @@ pub fn state_byte_laws() -> u8
     ensures relay { EveryRelay (HasAlways RelayBytes 16) }
     ensures panel { EveryPanel (HasAlways PanelBytes 4) }
     ensures buttons { EveryButtonInterface (HasAlways InterfaceBytes 32) }
+    ensures places { RecordsAreInPlace }
     ensures channels_read { ChannelsAreRead }
     ensures channels_written { EveryRelay ChannelsAreWritten }
     ensures interface_read { InterfacesAreRead }
