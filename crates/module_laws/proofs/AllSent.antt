@@ -1,4 +1,4 @@
--- With what priority and from whom modules send, and how large they are. Assumes nothing.
+-- With what priority and from whom modules send and hear, and how large they are. Assumes nothing.
 use Rattle.std.proofs.Common.{◌≡◌, ℕ, ◌<◌, List, ◌∷◌, [], refl, arith}
 use Rattle.bus.specs.declared.frame.Frame.{Frame}
 use Rattle.bus.specs.Frames.{message}
@@ -16,7 +16,7 @@ use Rattle.panel.specs.Panels.{pressed}
 use Rattle.panel.specs.Panels.{design as panel_design}
 use Rattle.kinds.specs.Kinds.{EveryPanel, EveryButtonInterface, EveryModule}
 use Rattle.laws.proofs.Sending.{PanelForms, all_relay, all_panel_command, all_panel, all_buttons}
-use Rattle.module_laws.specs.AllSent.{Headed, SendsHeaded, SendsAsItself, AllButRelays, Sizes}
+use Rattle.module_laws.specs.AllSent.{Headed, SendsHeaded, SendsAsItself, HearsAnyPriority, AllButRelays, Sizes}
 
 -- what does not begin with 00
 headed : (code a : ℕ) (bs : List ℕ) → 0 < code → Headed (message 3 a (code ∷ bs))
@@ -94,3 +94,6 @@ send_as_themselves = record { panel = panel_as_itself; buttons = interface_as_it
 
 pub sizes : Sizes
 sizes = record { relay = λ s. (refl, refl); panel = λ s. (refl, refl); buttons = λ s. (refl, refl) }
+
+pub hear_any_priority : EveryModule HearsAnyPriority
+hear_any_priority = record { relay = λ s own r p f. refl; panel = λ s own r p f. refl; buttons = λ s own r p f. refl }

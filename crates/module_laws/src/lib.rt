@@ -6,9 +6,9 @@ ghost use Rattle.kinds.specs.Kinds.{panel_kind, EveryRelay, EveryPanel, EveryBut
 ghost use Rattle.module_laws.specs.AllMemory.{OutOfRange, MemoryObeyed, CellsKept};
 ghost use Rattle.module_laws.specs.AllNew.{NewModules, RecordsAreInPlace};
 ghost use Rattle.module_laws.specs.AllPushes.{EveryPushTold};
-ghost use Rattle.module_laws.specs.AllSent.{SendsHeaded, SendsAsItself, AllButRelays, Sizes};
+ghost use Rattle.module_laws.specs.AllSent.{SendsHeaded, SendsAsItself, HearsAnyPriority, AllButRelays, Sizes};
 ghost use Rattle.module_laws.specs.AllUnlisted.{EveryUnlistedIgnored};
-ghost use Rattle.module_laws.specs.Frames.{CommandsAre, StatusesAre, TypeRequestsAre, LinksAre, LinkStatusesAre, Hearing, MessagesAre, CellsAreNamed, BytesArePut, BitsAre};
+ghost use Rattle.module_laws.specs.Frames.{CommandsAre, StatusesAre, TypeRequestsAre, EachFrameHasBytes, WellFormedAre, LinksAre, LinkStatusesAre, Hearing, MessagesAre, CellsAreNamed, BytesArePut, BitsAre};
 ghost use Rattle.module_laws.specs.InterfaceKeeps.{HoldsKept, PressedKept};
 ghost use Rattle.module_laws.specs.Panel.{PanelKeeps, PanelReplies, LinksNobody};
 ghost use Rattle.module_laws.specs.StateBytes.{RelayBytes, PanelBytes, InterfaceBytes, EveryModuleWith, HasAlways, ChannelsAreRead, ChannelsAreWritten, InterfacesAreRead};
@@ -28,6 +28,8 @@ pub fn frame_laws() -> u8
     ensures commands { CommandsAre }
     ensures statuses { StatusesAre }
     ensures type_requests { TypeRequestsAre }
+    ensures bytes { EachFrameHasBytes }
+    ensures well_formed { WellFormedAre }
     ensures links { LinksAre }
     ensures link_statuses { LinkStatusesAre }
     ensures hearing { Hearing }
@@ -52,6 +54,7 @@ pub fn panel_laws() -> u8
 pub fn all_module_laws() -> u8
     ensures priorities { EveryModule SendsHeaded }
     ensures own_address { AllButRelays SendsAsItself }
+    ensures any_priority { EveryModule HearsAnyPriority }
     ensures sizes { Sizes }
     ensures new { NewModules }
     ensures out_of_range { EveryModuleWith OutOfRange }
