@@ -1,9 +1,8 @@
 -- What a new module remembers, and where it stands in its record. Assumes nothing.
-use Rattle.std.proofs.Common.{◌≡◌, ℕ, ◌+◌, ◌<◌, ltb, length, replicate, get_or, refl, ap, ◌∙◌, inl, inr, arith, length-append}
+use Rattle.std.proofs.Common.{◌≡◌, ℕ, ltb, replicate, get_or, inl, inr, arith, length-append}
 use Rattle.std.proofs.lemmas.Bool.{cases_Bool, ltb-true, ltb-false}
 use Rattle.std.proofs.lemmas.List.{get_or-replicate, get_or_past, length-replicate, get_or_append_left, get_or-append-add}
-use Rattle.station.specs.Kinds.{Record}
-use Rattle.module_laws.specs.AllNew.{Blank, NewModules, InPlace, RecordsAreInPlace}
+use Rattle.module_laws.specs.AllNew.{Blank, NewModules, RecordsAreInPlace}
 
 zero : (n i : ℕ) → get_or {A = ℕ} (replicate n 0) i 0 ≡ 0
 zero n i =

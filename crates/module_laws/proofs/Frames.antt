@@ -6,7 +6,7 @@ use Rattle.bus.specs.Frames.{byte, is_command, zeros, sound_header, well_formed,
 use Rattle.station.specs.Kinds.{links, is_status, from_link}
 use Rattle.station.proofs.Puts.{length-put, put_inside, put_outside}
 use Rattle.laws.proofs.Bits.{bit_named}
-use Rattle.module_laws.specs.Frames.{CommandsAre, StatusesAre, TypeRequestsAre, Linkable, LinksAre, StatusOfLink, LinkStatusesAre, Hearing, Carries, MessagesAre, CellsAreNamed, BytesArePut, BitsAre, EachFrameHasBytes, WellFormed, WellFormedAre}
+use Rattle.module_laws.specs.Frames.{CommandsAre, StatusesAre, TypeRequestsAre, Linkable, LinksAre, StatusOfLink, LinkStatusesAre, HeardFramesAre, Carries, MessagesAre, CellsAreNamed, BytesArePut, BitsAre, EachFrameHasBytes, WellFormed, WellFormedAre}
 
 pub commands_are : CommandsAre
 commands_are code count f = (apart, together)
@@ -58,7 +58,7 @@ link_statuses_are k own r f = (apart, together)
     together : StatusOfLink k own r f → from_link k own r f ≡ true
     together h = and_from _ _ ((commands_are 0 4 f).1 (h.code, h.rtr, h.count)) ((links_are k own r f.address).1 h.sender)
 
-pub hearing : Hearing
+pub hearing : HeardFramesAre
 hearing k own r f = (apart, together)
   where
     linking : Bool

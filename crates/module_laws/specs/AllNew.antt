@@ -26,5 +26,6 @@ pub record InPlace (r : Record) : Type 0 where
   pub state : (n : ℕ) → slice_index (bytes r) (length r.cells + n) ≡ slice_index r.state n
   pub count : length (bytes r) ≡ length r.cells + length r.state
 
+-- in every record
 abbrev pub RecordsAreInPlace : Type 0
 RecordsAreInPlace = (r : Record) → InPlace r

@@ -8,14 +8,14 @@ use Rattle.station.specs.Kinds.{Record, Kind}
 use Rattle.kinds.specs.Kinds.{EveryRelay, EveryPanel, EveryButtonInterface}
 
 -- priority 0 in a frame that begins with 00 and 3 in any other; RTR 0
-pub record Headed (g : Frame) : Type 0 where
+pub record HasHeader (g : Frame) : Type 0 where
   pub urgent : slice_index g.bytes 0 ≡ 0x00 → g.priority ≡ 0
   pub low : slice_index g.bytes 0 ≢ 0x00 → g.priority ≡ 3
   pub rtr : g.rtr ≡ 0
 
 -- each frame that is sent has such a header
-abbrev pub SendsHeaded : Kind → Type 0
-SendsHeaded k = (own : ℕ) (r : Record) (e : Event) → AllByRecursion Headed (k.acts own r e).sent
+abbrev pub SendsWithHeader : Kind → Type 0
+SendsWithHeader k = (own : ℕ) (r : Record) (e : Event) → AllByRecursion HasHeader (k.acts own r e).sent
 
 -- each frame that is sent bears the own address
 abbrev pub SendsAsItself : Kind → Type 0

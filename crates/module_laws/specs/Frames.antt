@@ -24,6 +24,7 @@ pub record BytesAre (f : Frame) : Type 0 where
   pub byte : (n : ℕ) → byte f n ≡ slice_index f.bytes n
   pub seconds : seconds_in f ≡ slice_index f.bytes 2 * 65536 + slice_index f.bytes 3 * 256 + slice_index f.bytes 4
 
+-- of every frame
 abbrev pub EachFrameHasBytes : Type 0
 EachFrameHasBytes = (f : Frame) → BytesAre f
 
@@ -60,8 +61,8 @@ abbrev pub LinkStatusesAre : Type 0
 LinkStatusesAre = (k : Kind) (own : ℕ) (r : Record) (f : Frame) → (from_link k own r f ≡ true) ↔ StatusOfLink k own r f
 
 -- a seat hears exactly the frames with its own address, those with address 0, and the button statuses from links
-abbrev pub Hearing : Type 0
-Hearing =
+abbrev pub HeardFramesAre : Type 0
+HeardFramesAre =
     (k : Kind) (own : ℕ) (r : Record) (f : Frame) → (hears k own r f ≡ true) ↔ ((f.address ≡ own) ⊎ ((f.address ≡ 0) ⊎ StatusOfLink k own r f))
 
 -- a frame of that priority, address and bytes: RTR 0, its count is how many bytes there are, zeros fill the eight places
@@ -88,6 +89,7 @@ pub record PutIn (cells : List ℕ) (at : ℕ) (bs : List ℕ) : Type 0 where
   pub outside : (n : ℕ) → (n < at) ⊎ (at + length bs ≤ n) → slice_index (put cells at bs) n ≡ slice_index cells n
   pub size : length (put cells at bs) ≡ length cells
 
+-- whatever the cells and the bytes
 abbrev pub BytesArePut : Type 0
 BytesArePut = (cells : List ℕ) (at : ℕ) (bs : List ℕ) → PutIn cells at bs
 

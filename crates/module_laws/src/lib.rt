@@ -6,9 +6,9 @@ ghost use Rattle.kinds.specs.Kinds.{panel_kind, EveryRelay, EveryPanel, EveryBut
 ghost use Rattle.module_laws.specs.AllMemory.{OutOfRange, MemoryObeyed, CellsKept};
 ghost use Rattle.module_laws.specs.AllNew.{NewModules, RecordsAreInPlace};
 ghost use Rattle.module_laws.specs.AllPushes.{EveryPushTold};
-ghost use Rattle.module_laws.specs.AllSent.{SendsHeaded, SendsAsItself, HearsAnyPriority, AllButRelays, Sizes};
+ghost use Rattle.module_laws.specs.AllSent.{SendsWithHeader, SendsAsItself, HearsAnyPriority, AllButRelays, Sizes};
 ghost use Rattle.module_laws.specs.AllUnlisted.{EveryUnlistedIgnored};
-ghost use Rattle.module_laws.specs.Frames.{CommandsAre, StatusesAre, TypeRequestsAre, EachFrameHasBytes, WellFormedAre, LinksAre, LinkStatusesAre, Hearing, MessagesAre, CellsAreNamed, BytesArePut, BitsAre};
+ghost use Rattle.module_laws.specs.Frames.{CommandsAre, StatusesAre, TypeRequestsAre, EachFrameHasBytes, WellFormedAre, LinksAre, LinkStatusesAre, HeardFramesAre, MessagesAre, CellsAreNamed, BytesArePut, BitsAre};
 ghost use Rattle.module_laws.specs.InterfaceKeeps.{HoldsKept, PressedKept};
 ghost use Rattle.module_laws.specs.Panel.{PanelKeeps, PanelReplies, LinksNobody};
 ghost use Rattle.module_laws.specs.StateBytes.{RelayBytes, PanelBytes, InterfaceBytes, EveryModuleWith, HasAlways, ChannelsAreRead, ChannelsAreWritten, InterfacesAreRead};
@@ -32,7 +32,7 @@ pub fn frame_laws() -> u8
     ensures well_formed { WellFormedAre }
     ensures links { LinksAre }
     ensures link_statuses { LinkStatusesAre }
-    ensures hearing { Hearing }
+    ensures hearing { HeardFramesAre }
     ensures messages { MessagesAre }
     ensures cells { CellsAreNamed }
     ensures put { BytesArePut }
@@ -52,7 +52,7 @@ pub fn panel_laws() -> u8
 
 // What holds of all modules.
 pub fn all_module_laws() -> u8
-    ensures priorities { EveryModule SendsHeaded }
+    ensures priorities { EveryModule SendsWithHeader }
     ensures own_address { AllButRelays SendsAsItself }
     ensures any_priority { EveryModule HearsAnyPriority }
     ensures sizes { Sizes }
