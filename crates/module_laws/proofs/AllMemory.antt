@@ -30,7 +30,7 @@ use Rattle.laws.proofs.Cells.{four as four_cells, four-put}
 use Rattle.laws.proofs.Commands.{MemoryOnly, ByMemory, memory_only, relay_by_memory, panel_by_memory, buttons_by_memory}
 use Rattle.kinds.specs.Kinds.{EveryModule}
 use Rattle.module_laws.specs.AllListed.{is_one_of, lamp_commands}
-use Rattle.module_laws.specs.AllMemory.{NothingComes, OutOfRange, Written, Answered, reply, MemoryObeyed, CellsKept}
+use Rattle.module_laws.specs.AllMemory.{NothingComes, OutOfRange, BytesWritten, IsAnswered, reply, MemoryObeyed, CellsKept}
 use Rattle.module_laws.specs.StateBytes.{RelayBytes, PanelBytes, InterfaceBytes, EveryModuleWith}
 use Rattle.module_laws.proofs.LampCommands.{lamps_same}
 use Rattle.module_laws.proofs.Panel.{no_memory}
@@ -50,9 +50,9 @@ panel_stays s own r f h none = ap (λ l. panel_state l (pressed r)) (lamps_same 
 
 -- nor of an interface's lamps, channels and clock
 pub interface_stays : (s : InterfaceSetup) (own : ℕ) (r : Record) (f : Frame) → InterfaceBytes r.state → is_one_of lamp_commands f ≡ false → interface_commanded f ≡ None → (eqb f.address 0 && is_command 0xD8 4 f) ≡ false → ((buttons_design s).command own r f).after.state ≡ r.state
-interface_stays s own r f h dark none unset =
+interface_stays s own r f h asks_no_lamp none unset =
     let x = decoded r.state in
-    let no_lamps = lamps_same x.lamps f dark in
+    let no_lamps = lamps_same x.lamps f asks_no_lamp in
     let no_clock : clock_after x.clock f ≡ x.clock = cond-false (eqb f.address 0 && is_command 0xD8 4 f) _ _ unset in
     (λ i. encoded (record { lamps = no_lamps i; pressed = x.pressed; holds = held_after (none i) (bit_and (byte f 1) 0xFF) x.holds; clock = no_clock i }))
     ∙ interface_told r.state h
@@ -60,7 +60,7 @@ interface_stays s own r f h dark none unset =
 -- a frame that is a command on the memory asks for nothing else
 record OnlyMemory (f : Frame) : Type 0 where
   basic : MemoryOnly f
-  dark : is_one_of lamp_commands f ≡ false
+  asks_no_lamp : is_one_of lamp_commands f ≡ false
   unlocked : interface_commanded f ≡ None
   unset : is_command 0xD8 4 f ≡ false
 
@@ -68,7 +68,7 @@ only_memory : (code n : ℕ) (f : Frame) → is_command code n f ≡ true → Me
 only_memory code n f w basic other a b c d e g lock unlock set =
     record {
       basic = basic;
-      dark =
+      asks_no_lamp =
           or_from _ _ (other 0xF4 4 a)
           (or_from _ _ (other 0xF5 2 b) (or_from _ _ (other 0xF6 2 c) (or_from _ _ (other 0xF7 2 d) (or_from _ _ (other 0xF8 2 e) (or_from _ _ (other 0xF9 2 g) refl)))));
       unlocked = cond-false (is_command 0x12 5 f) _ _ (other 0x12 5 lock) ∙ cond-false (is_command 0x13 2 f) _ _ (other 0x13 2 unlock);
@@ -179,10 +179,10 @@ module _ (Such : List ℕ → Type 0) (d : Design) (plain : Plain Such d) where
   -- n bytes are stored, and these frames sent
   stores_these : (own : ℕ) (r : Record) (f : Frame) → f.address ≡ own → Such r.state → OnlyMemory f → (bs : List ℕ) (fs : List Frame) → stored r.cells f ≡ put r.cells (cell f) bs →
       ((i : ℕ) → i < length bs → get_or (put r.cells (cell f) bs) (cell f + i) 0 ≡ get_or f.bytes (3 + i) 0) → memory_sent own r.cells f ≡ fs →
-      Written (length bs) r f fs (answered d own r (Heard f))
+      BytesWritten (length bs) r f fs (answered d own r (Heard f))
   stores_these own r f at such only bs fs kept puts sent =
       let stores : (d.command own r f).after.cells ≡ put r.cells (cell f) bs = plain.memory.stores own r f ∙ kept in
-      subst (Written (length bs) r f fs) (sym (at_own d own r f at)) (record {
+      subst (BytesWritten (length bs) r f fs) (sym (at_own d own r f at)) (record {
         holds = λ i l. ap (λ t. get_or t (cell f + i) 0) stores ∙ puts i l;
         others = λ a out. ap (λ t. get_or t a 0) stores ∙ put_outside bs r.cells (cell f) a out;
         size = ap length stores ∙ length-put r.cells (cell f) bs;
@@ -191,9 +191,9 @@ module _ (Such : List ℕ → Type 0) (d : Design) (plain : Plain Such d) where
       })
 
   answers_these : (own : ℕ) (r : Record) (f : Frame) → f.address ≡ own → Such r.state → OnlyMemory f → (fs : List Frame) → stored r.cells f ≡ r.cells → memory_sent own r.cells f ≡ fs →
-      Answered r fs (answered d own r (Heard f))
+      IsAnswered r fs (answered d own r (Heard f))
   answers_these own r f at such only fs kept sent =
-      subst (Answered r fs) (sym (at_own d own r f at))
+      subst (IsAnswered r fs) (sym (at_own d own r f at))
       (record { stays = same_record _ r (plain.memory.stores own r f ∙ kept) (plain.state own r f such only); sent = plain.memory.sends own r f only.basic ∙ sent })
 
   obeys : MemoryObeyed Such (designed d)
@@ -236,13 +236,13 @@ relay_plain : (s : RelaySetup) → Plain RelayBytes (relay_design s)
 relay_plain s = record { memory = relay_by_memory s; state = λ own r f h only. relay_stays s own r f h only.basic.no_action; broadcast = λ own r f. refl; status = λ own r f. refl; second = λ own r. refl; push = λ own r c e. refl }
 
 panel_plain : (s : PanelSetup) → Plain PanelBytes (panel_design s)
-panel_plain s = record { memory = panel_by_memory s; state = λ own r f h only. panel_stays s own r f h only.dark; broadcast = λ own r f. refl; status = λ own r f. refl; second = λ own r. refl; push = λ own r c e. refl }
+panel_plain s = record { memory = panel_by_memory s; state = λ own r f h only. panel_stays s own r f h only.asks_no_lamp; broadcast = λ own r f. refl; status = λ own r f. refl; second = λ own r. refl; push = λ own r c e. refl }
 
 buttons_plain : (s : InterfaceSetup) → Plain InterfaceBytes (buttons_design s)
 buttons_plain s =
     record {
       memory = buttons_by_memory s;
-      state = λ own r f h only. interface_stays s own r f h only.dark only.unlocked (and_right (eqb f.address 0) (is_command 0xD8 4 f) only.unset);
+      state = λ own r f h only. interface_stays s own r f h only.asks_no_lamp only.unlocked (and_right (eqb f.address 0) (is_command 0xD8 4 f) only.unset);
       broadcast = λ own r f. refl;
       status = λ own r f. refl;
       second = λ own r. refl;

@@ -21,7 +21,7 @@ use Rattle.laws.proofs.Bits.{bit_named}
 use Rattle.laws.proofs.Pushing.{push_moves, push_ignored}
 use Rattle.kinds.specs.Kinds.{panel_kind, buttons_kind}
 use Rattle.module_laws.specs.AllMemory.{NothingComes}
-use Rattle.module_laws.specs.AllPushes.{is_down, is_free, ButtonShows, CannotShow, Ignored, PushesTold, EveryPushTold}
+use Rattle.module_laws.specs.AllPushes.{is_down, is_free, ButtonShows, CannotShow, IsIgnored, PushesTold, EveryPushTold}
 use Rattle.module_laws.specs.StateBytes.{PanelBytes, InterfaceBytes}
 use Rattle.module_laws.proofs.AllMemory.{same_record}
 use Rattle.module_laws.proofs.StateBytes.{panel_told}
@@ -56,7 +56,7 @@ module _ (is_locked free : Record → ℕ → Bool) (agree : (r : Record) (c : �
   cannot Release b h = h
   cannot LongPress b h = h
 
-  uncounted : (own : ℕ) (r : Record) (p : Push) → Ignored free own r p → counts is_locked own r p ≡ false
+  uncounted : (own : ℕ) (r : Record) (p : Push) → IsIgnored free own r p → counts is_locked own r p ≡ false
   uncounted own r p (inl other) = and_left (eqb p.address own) _ (ne_eqb p.address own other)
   uncounted own r p (inr (inl zero)) = and_right (eqb p.address own) _ (and_left (ltb 0 p.channel) _ (ap (ltb 0) zero))
   uncounted own r p (inr (inr (inl past))) = and_right (eqb p.address own) _ (and_right (ltb 0 p.channel) _ (and_left (leb p.channel 8) _ (lt-leb p.channel 8 past)))

@@ -1,4 +1,4 @@
--- With what priority and from whom modules send, and how large they are. Assumes nothing.
+-- With what priority and from whom modules send and hear, and how large they are. Assumes nothing.
 use Rattle.std.proofs.Common.{◌≡◌, ℕ, ◌<◌, List, ◌∷◌, [], refl, arith}
 use Rattle.bus.specs.declared.frame.Frame.{Frame}
 use Rattle.bus.specs.Frames.{message}
@@ -16,23 +16,23 @@ use Rattle.panel.specs.Panels.{pressed}
 use Rattle.panel.specs.Panels.{design as panel_design}
 use Rattle.kinds.specs.Kinds.{EveryPanel, EveryButtonInterface, EveryModule}
 use Rattle.laws.proofs.Sending.{PanelForms, all_relay, all_panel_command, all_panel, all_buttons}
-use Rattle.module_laws.specs.AllSent.{Headed, SendsHeaded, SendsAsItself, AllButRelays, Sizes}
+use Rattle.module_laws.specs.AllSent.{HasHeader, SendsWithHeader, SendsAsItself, HearsAnyPriority, AllButRelays, Sizes}
 
 -- what does not begin with 00
-headed : (code a : ℕ) (bs : List ℕ) → 0 < code → Headed (message 3 a (code ∷ bs))
+headed : (code a : ℕ) (bs : List ℕ) → 0 < code → HasHeader (message 3 a (code ∷ bs))
 headed code a bs h = record { urgent = λ e. absurd (omega (arith, e)); low = λ _. refl; rtr = refl }
 
 -- a button status
-headed_edge : (own : ℕ) (edge : Edge) (b : ℕ) → Headed (message 0 own (status_bytes edge b))
+headed_edge : (own : ℕ) (edge : Edge) (b : ℕ) → HasHeader (message 0 own (status_bytes edge b))
 headed_edge own Press b = record { urgent = λ _. refl; low = λ n. absurd (n refl); rtr = refl }
 headed_edge own Release b = record { urgent = λ _. refl; low = λ n. absurd (n refl); rtr = refl }
 headed_edge own LongPress b = record { urgent = λ _. refl; low = λ n. absurd (n refl); rtr = refl }
 
-pub sends_headed : EveryModule SendsHeaded
+pub sends_headed : EveryModule SendsWithHeader
 sends_headed =
     record {
       relay = λ s.
-          all_relay Headed s
+          all_relay HasHeader s
           (λ own.
           record {
             cell = λ h l b. headed 0xFE own (h ∷ l ∷ b ∷ []) (omega arith);
@@ -42,7 +42,7 @@ sends_headed =
           })
           (λ a. record { on = λ bits. headed 0xF6 a (bits ∷ []) (omega arith); out = λ bits. headed 0xF5 a (bits ∷ []) (omega arith) });
       panel = λ s.
-          all_panel Headed s
+          all_panel HasHeader s
           (λ own.
           record {
             cell = λ h l b. headed 0xFE own (h ∷ l ∷ b ∷ []) (omega arith);
@@ -52,7 +52,7 @@ sends_headed =
             button = headed_edge own;
           });
       buttons = λ s.
-          all_buttons Headed s
+          all_buttons HasHeader s
           (λ own.
           record {
             cell = λ h l b. headed 0xFE own (h ∷ l ∷ b ∷ []) (omega arith);
@@ -94,3 +94,6 @@ send_as_themselves = record { panel = panel_as_itself; buttons = interface_as_it
 
 pub sizes : Sizes
 sizes = record { relay = λ s. (refl, refl); panel = λ s. (refl, refl); buttons = λ s. (refl, refl) }
+
+pub hear_any_priority : EveryModule HearsAnyPriority
+hear_any_priority = record { relay = λ s own r p f. refl; panel = λ s own r p f. refl; buttons = λ s own r p f. refl }

@@ -1,12 +1,12 @@
 -- What a command, a button status and a linked address are, and what a frame carries, in numbers. Assumes nothing.
-use Rattle.std.proofs.Common.{◌≡◌, ℕ, ◌-◌, ◌<◌, ◌≤◌, Bool, true, not, ◌&&◌, ◌||◌, ◌⊎◌, eqb, ltb, List, ◌++◌, length, take, replicate, get_or, refl, sym, ap, ◌∙◌, inl, inr, arith, length-append}
+use Rattle.std.proofs.Common.{◌≡◌, ℕ, zero, suc, ◌+◌, ◌-◌, ◌<◌, ◌≤◌, Bool, true, not, ◌&&◌, ◌||◌, ◌⊎◌, eqb, ltb, List, [], ◌∷◌, ◌++◌, length, take, drop, replicate, get_or, refl, sym, ap, ◌∙◌, inl, inr, arith, length-append}
 use Rattle.std.proofs.lemmas.Bool.{and_parts, and_from, or_left, or_right, cases_Bool, eqb-true, eqb-false, eq-eqb, ne_eqb, ltb-true, ltb-false, lt-ltb, not-true, not_from_false}
-use Rattle.std.proofs.lemmas.List.{get_or_append_left, get_or-append_right, get_or-replicate, get_or-take, get_or_past, length-take-le, length-replicate}
-use Rattle.bus.specs.Frames.{byte, is_command, message}
+use Rattle.std.proofs.lemmas.List.{get_or_append_left, get_or-append_right, get_or-replicate, get_or-take, get_or-drop, get_or_past, length-take-le, length-replicate}
+use Rattle.bus.specs.Frames.{byte, is_command, zeros, sound_header, well_formed, message}
 use Rattle.station.specs.Kinds.{links, is_status, from_link}
 use Rattle.station.proofs.Puts.{length-put, put_inside, put_outside}
 use Rattle.laws.proofs.Bits.{bit_named}
-use Rattle.module_laws.specs.Frames.{CommandsAre, StatusesAre, TypeRequestsAre, Linkable, LinksAre, StatusOfLink, LinkStatusesAre, Hearing, Carries, MessagesAre, CellsAreNamed, BytesArePut, BitsAre}
+use Rattle.module_laws.specs.Frames.{CommandsAre, StatusesAre, TypeRequestsAre, Linkable, LinksAre, StatusOfLink, LinkStatusesAre, HeardFramesAre, Carries, MessagesAre, CellsAreNamed, BytesArePut, BitsAre, EachFrameHasBytes, WellFormed, WellFormedAre}
 
 pub commands_are : CommandsAre
 commands_are code count f = (apart, together)
@@ -58,7 +58,7 @@ link_statuses_are k own r f = (apart, together)
     together : StatusOfLink k own r f → from_link k own r f ≡ true
     together h = and_from _ _ ((commands_are 0 4 f).1 (h.code, h.rtr, h.count)) ((links_are k own r f.address).1 h.sender)
 
-pub hearing : Hearing
+pub hearing : HeardFramesAre
 hearing k own r f = (apart, together)
   where
     linking : Bool
@@ -71,7 +71,7 @@ hearing k own r f = (apart, together)
           | inr other ↦
               let rest : (eqb f.address 0 || linking) ≡ true = ap (λ b. b || (eqb f.address 0 || linking)) (sym other) ∙ e in
               elim (cases_Bool (eqb f.address 0)) [
-                | inl zero ↦ inr (inl (eqb-true _ _ zero))
+                | inl none ↦ inr (inl (eqb-true _ _ none))
                 | inr above ↦ inr (inr ((link_statuses_are k own r f).0 (ap (λ b. b || linking) (sym above) ∙ rest)))
               ]
         ]
@@ -119,3 +119,54 @@ bytes_are_put cells at bs =
 
 pub bits_are : BitsAre
 bits_are = record { place = bit_named; channel = λ c. refl }
+
+pub each_frame_has_bytes : EachFrameHasBytes
+each_frame_has_bytes f = record { byte = λ n. refl; seconds = refl }
+
+-- zeros, one by one
+all_zero : (xs : List ℕ) → zeros xs ≡ true → (i : ℕ) → get_or xs i 0 ≡ 0
+all_zero [] h i = get_or_past {X = ℕ} [] i 0 (omega arith)
+all_zero (x ∷ xs) h zero = eqb-true x 0 (and_parts (eqb x 0) (zeros xs) h).0
+all_zero (x ∷ xs) h (suc i) = all_zero xs (and_parts (eqb x 0) (zeros xs) h).1 i
+
+zero_all : (xs : List ℕ) → ((i : ℕ) → get_or xs i 0 ≡ 0) → zeros xs ≡ true
+zero_all [] h = refl
+zero_all (x ∷ xs) h = and_from _ _ (eq-eqb x 0 (h 0)) (zero_all xs (λ i. h (suc i)))
+
+pub well_formed_are : WellFormedAre
+well_formed_are f = (apart, together)
+  where
+    apart : well_formed f ≡ true → WellFormed f
+    apart e =
+        let both = and_parts (sound_header f) (zeros (drop f.count f.bytes)) e in
+        let a = and_parts (ltb f.priority 4) (ltb f.rtr 2 && (ltb f.count 9 && (eqb f.rtr 0 || eqb f.count 0))) both.0 in
+        let b = and_parts (ltb f.rtr 2) (ltb f.count 9 && (eqb f.rtr 0 || eqb f.count 0)) a.1 in
+        let c = and_parts (ltb f.count 9) (eqb f.rtr 0 || eqb f.count 0) b.1 in
+        let rtr : f.rtr < 2 = ltb-true f.rtr 2 b.0 in
+        let count : f.count < 9 = ltb-true f.count 9 c.0 in
+        record {
+          priority = omega (arith, ltb-true f.priority 4 a.0);
+          rtr =
+              elim (cases_Bool (eqb f.rtr 0)) [
+                | inl none ↦ inl (eqb-true f.rtr 0 none, omega (arith, count))
+                | inr some ↦
+                    let one : f.rtr ≡ 1 = omega (arith, rtr, eqb-false f.rtr 0 some) in
+                    inr (one, eqb-true f.count 0 (ap (λ b. b || eqb f.count 0) (sym some) ∙ c.1))
+              ];
+          zeros = λ i h.
+              let at : f.count + (i - f.count) ≡ i = omega (arith, h) in
+              ap (λ n. get_or f.bytes n 0) (sym at) ∙ (sym (get_or-drop f.count f.bytes (i - f.count) 0) ∙ all_zero (drop f.count f.bytes) both.1 (i - f.count));
+        }
+
+    header : (f.priority ≤ 3) → ((f.rtr ≡ 0) × (f.count ≤ 8)) ⊎ ((f.rtr ≡ 1) × (f.count ≡ 0)) → sound_header f ≡ true
+    header p (inl h) =
+        and_from _ _ (lt-ltb f.priority 4 (omega (arith, p)))
+        (and_from _ _ (lt-ltb f.rtr 2 (omega (arith, h.0))) (and_from _ _ (lt-ltb f.count 9 (omega (arith, h.1))) (or_left _ _ (eq-eqb _ _ h.0))))
+    header p (inr h) =
+        and_from _ _ (lt-ltb f.priority 4 (omega (arith, p)))
+        (and_from _ _ (lt-ltb f.rtr 2 (omega (arith, h.0))) (and_from _ _ (lt-ltb f.count 9 (omega (arith, h.1))) (or_right (eqb f.rtr 0) _ (eq-eqb _ _ h.1))))
+
+    together : WellFormed f → well_formed f ≡ true
+    together h =
+        and_from _ _ (header h.priority h.rtr)
+        (zero_all (drop f.count f.bytes) (λ i. get_or-drop f.count f.bytes i 0 ∙ h.zeros (f.count + i) (omega arith)))

@@ -15,3 +15,4 @@ mod StateBytesInterface
 mod AllMemory
 mod AllUnlisted
 mod AllPushes
+mod AllNew

@@ -31,14 +31,14 @@ pub record OutOfRange (Such : List ℕ → Type 0) (k : Kind) : Type 0 where
   pub write_four : NoneBeyond 0xCA 7 4 Such k
 
 -- of the command in so many bytes at the own address, where n cells from the named one on lie in the memory, this comes
-abbrev pub Within : ℕ → ℕ → ℕ → (ℕ → Record → Frame → Outcome → Type 0) → (List ℕ → Type 0) → Kind → Type 0
-Within code count n This Such k =
+abbrev pub IfWithin : ℕ → ℕ → ℕ → (ℕ → Record → Frame → Outcome → Type 0) → (List ℕ → Type 0) → Kind → Type 0
+IfWithin code count n This Such k =
     (own : ℕ) (r : Record) (f : Frame) → f.address ≡ own → is_command code count f ≡ true → Such r.state → named_cell f + n ≤ length r.cells →
     This own r f (k.acts own r (Heard f))
 
 -- n cells from the named one on hold the bytes of the frame from the fourth on; all other cells and the state bytes stay;
 -- these frames are sent
-pub record Written (n : ℕ) (r : Record) (f : Frame) (fs : List Frame) (o : Outcome) : Type 0 where
+pub record BytesWritten (n : ℕ) (r : Record) (f : Frame) (fs : List Frame) (o : Outcome) : Type 0 where
   pub holds : (i : ℕ) → i < n → slice_index o.after.cells (named_cell f + i) ≡ slice_index f.bytes (3 + i)
   pub others : (a : ℕ) → (a < named_cell f) ⊎ (named_cell f + n ≤ a) → slice_index o.after.cells a ≡ slice_index r.cells a
   pub size : length o.after.cells ≡ length r.cells
@@ -46,7 +46,7 @@ pub record Written (n : ℕ) (r : Record) (f : Frame) (fs : List Frame) (o : Out
   pub sent : o.sent ≡ fs
 
 -- the record stays, and these frames are sent
-pub record Answered (r : Record) (fs : List Frame) (o : Outcome) : Type 0 where
+pub record IsAnswered (r : Record) (fs : List Frame) (o : Outcome) : Type 0 where
   pub stays : o.after ≡ r
   pub sent : o.sent ≡ fs
 
@@ -57,15 +57,15 @@ reply own code f bs = message 3 own (code ∷ slice_index f.bytes 1 ∷ slice_in
 -- FC stores one byte and is not answered; CA stores four and is answered by CC with them; FD and C9 are answered by FE with
 -- the cell and by CC with four
 pub record MemoryObeyed (Such : List ℕ → Type 0) (k : Kind) : Type 0 where
-  pub write : Within 0xFC 4 1 (λ own r f o. Written 1 r f [] o) Such k
+  pub write : IfWithin 0xFC 4 1 (λ own r f o. BytesWritten 1 r f [] o) Such k
   pub write_four :
-      Within 0xCA 7 4
-      (λ own r f o. Written 4 r f (reply own 0xCC f (slice_index f.bytes 3 ∷ slice_index f.bytes 4 ∷ slice_index f.bytes 5 ∷ slice_index f.bytes 6 ∷ []) ∷ []) o) Such k
-  pub read : Within 0xFD 3 1 (λ own r f o. Answered r (reply own 0xFE f (slice_index r.cells (named_cell f) ∷ []) ∷ []) o) Such k
+      IfWithin 0xCA 7 4
+      (λ own r f o. BytesWritten 4 r f (reply own 0xCC f (slice_index f.bytes 3 ∷ slice_index f.bytes 4 ∷ slice_index f.bytes 5 ∷ slice_index f.bytes 6 ∷ []) ∷ []) o) Such k
+  pub read : IfWithin 0xFD 3 1 (λ own r f o. IsAnswered r (reply own 0xFE f (slice_index r.cells (named_cell f) ∷ []) ∷ []) o) Such k
   pub read_four :
-      Within 0xC9 3 4
+      IfWithin 0xC9 3 4
       (λ own r f o.
-      Answered r
+      IsAnswered r
       (reply own 0xCC f (slice_index r.cells (named_cell f) ∷ slice_index r.cells (named_cell f + 1) ∷ slice_index r.cells (named_cell f + 2) ∷ slice_index r.cells (named_cell f + 3) ∷ []) ∷ []) o)
       Such k
 

@@ -40,8 +40,8 @@ CannotShow Release down = down ≡ false
 CannotShow LongPress down = down ≡ false
 
 -- the push is at another address, at no channel from 1 to 8, at a channel that is locked, or of an edge that cannot be
-abbrev pub Ignored : (Record → ℕ → Bool) → ℕ → Record → Push → Type 0
-Ignored free own r p =
+abbrev pub IsIgnored : (Record → ℕ → Bool) → ℕ → Record → Push → Type 0
+IsIgnored free own r p =
     (p.address ≢ own) ⊎ ((p.channel ≡ 0) ⊎ ((8 < p.channel) ⊎ ((free r p.channel ≡ false) ⊎ CannotShow p.edge (is_down r p.channel))))
 
 -- a press is told by 00 with the bit of the channel in the second byte, a release by 00 with the bit in the third, a long
@@ -50,7 +50,7 @@ pub record PushesTold (free : Record → ℕ → Bool) (Such : List ℕ → Type
   pub press : OnEdge free k Press false (λ own c r o. ButtonShows own c (0x00 ∷ 2 ^ (c - 1) ∷ 0 ∷ 0 ∷ []) true r o)
   pub release : OnEdge free k Release true (λ own c r o. ButtonShows own c (0x00 ∷ 0 ∷ 2 ^ (c - 1) ∷ 0 ∷ []) false r o)
   pub long_press : OnEdge free k LongPress true (λ own c r o. ButtonShows own c (0x00 ∷ 0 ∷ 0 ∷ 2 ^ (c - 1) ∷ []) true r o)
-  pub ignored : (own : ℕ) (r : Record) (p : Push) → Such r.state → Ignored free own r p → NothingComes r (k.acts own r (Pushed p))
+  pub ignored : (own : ℕ) (r : Record) (p : Push) → Such r.state → IsIgnored free own r p → NothingComes r (k.acts own r (Pushed p))
 
 -- so it is with panels, whose channels are always free, and with button interfaces
 pub record EveryPushTold : Type 0 where

@@ -19,6 +19,7 @@ pub record ActsOn : Type 0 where
   pub seconds : Bool
   pub pushes : Bool
 
+-- a relay: commands for the memory, 01, 02, 03 and FA; button statuses from links, and seconds
 abbrev pub of_relay : ActsOn
 of_relay =
     record {
@@ -29,6 +30,7 @@ of_relay =
       pushes = false;
     }
 
+-- a panel: commands for the memory and for lamps, FA and type requests; pushes
 abbrev pub of_panel : ActsOn
 of_panel =
     record {
@@ -39,6 +41,7 @@ of_panel =
       pushes = true;
     }
 
+-- a button interface: the same commands as a panel, 12, 13 and D7; D7 and D8 with address 0; all else
 abbrev pub of_interface : ActsOn
 of_interface =
     record {
@@ -50,15 +53,15 @@ of_interface =
     }
 
 -- the event is none of those
-abbrev pub Unlisted : ActsOn → Kind → ℕ → Record → Event → Type 0
-Unlisted l k own r (Heard f) =
+abbrev pub IsUnlisted : ActsOn → Kind → ℕ → Record → Event → Type 0
+IsUnlisted l k own r (Heard f) =
     (f.address ≡ own → is_one_of l.at_own f ≡ false) × (f.address ≡ 0 → is_one_of l.at_zero f ≡ false) × ((l.links && from_link k own r f) ≡ false)
-Unlisted l k own r Second = l.seconds ≡ false
-Unlisted l k own r (Pushed p) = p.address ≡ own → l.pushes ≡ false
+IsUnlisted l k own r Second = l.seconds ≡ false
+IsUnlisted l k own r (Pushed p) = p.address ≡ own → l.pushes ≡ false
 
 -- such an event leaves the record, and nothing is sent
 abbrev pub UnlistedIgnored : ActsOn → (List ℕ → Type 0) → Kind → Type 0
-UnlistedIgnored l Such k = (own : ℕ) (r : Record) (e : Event) → Such r.state → Unlisted l k own r e → NothingComes r (k.acts own r e)
+UnlistedIgnored l Such k = (own : ℕ) (r : Record) (e : Event) → Such r.state → IsUnlisted l k own r e → NothingComes r (k.acts own r e)
 
 -- so it is with each kind and its list
 pub record EveryUnlistedIgnored : Type 0 where

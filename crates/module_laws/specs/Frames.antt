@@ -1,7 +1,7 @@
 -- What a command, a button status and a linked address are, and what a frame carries, in numbers. Assumes nothing.
 use Rattle.std.specs.Prelude.{◌≡◌, ℕ, ◌+◌, ◌-◌, ◌*◌, ◌/◌, ◌%◌, ◌^◌, ◌<◌, ◌≤◌, ◌≢◌, ◌⊎◌, ◌↔◌, ◌==◌, true, List, length, slice_index}
 use Rattle.bus.specs.declared.frame.Frame.{Frame}
-use Rattle.bus.specs.Frames.{is_command, is_type_request, message}
+use Rattle.bus.specs.Frames.{byte, seconds_in, is_command, is_type_request, well_formed, message}
 use Rattle.station.specs.Kinds.{Record, Kind, links, is_status, from_link, hears}
 use Rattle.station.specs.Rules.{cell, put}
 use Rattle.module.specs.Bits.{has_bit}
@@ -18,6 +18,25 @@ StatusesAre = (f : Frame) → (is_status f ≡ true) ↔ ((slice_index f.bytes 0
 -- it is a type request if and only if it has RTR 1 and no bytes
 abbrev pub TypeRequestsAre : Type 0
 TypeRequestsAre = (f : Frame) → (is_type_request f ≡ true) ↔ ((f.rtr ≡ 1) × (f.count ≡ 0))
+
+-- its data bytes are counted from 0; the time that it carries is in the third to the fifth, high byte first
+pub record BytesAre (f : Frame) : Type 0 where
+  pub byte : (n : ℕ) → byte f n ≡ slice_index f.bytes n
+  pub seconds : seconds_in f ≡ slice_index f.bytes 2 * 65536 + slice_index f.bytes 3 * 256 + slice_index f.bytes 4
+
+-- of every frame
+abbrev pub EachFrameHasBytes : Type 0
+EachFrameHasBytes = (f : Frame) → BytesAre f
+
+-- priority 0 to 3; RTR 0 and at most eight bytes, or RTR 1 and none; zeros behind the bytes
+pub record WellFormed (f : Frame) : Type 0 where
+  pub priority : f.priority ≤ 3
+  pub rtr : ((f.rtr ≡ 0) × (f.count ≤ 8)) ⊎ ((f.rtr ≡ 1) × (f.count ≡ 0))
+  pub zeros : (i : ℕ) → f.count ≤ i → slice_index f.bytes i ≡ 0
+
+-- just such frames are well formed
+abbrev pub WellFormedAre : Type 0
+WellFormedAre = (f : Frame) → (well_formed f ≡ true) ↔ WellFormed f
 
 -- an address from 1 to 254, not the own, that the record names
 pub record Linkable (k : Kind) (own : ℕ) (r : Record) (a : ℕ) : Type 0 where
@@ -42,8 +61,8 @@ abbrev pub LinkStatusesAre : Type 0
 LinkStatusesAre = (k : Kind) (own : ℕ) (r : Record) (f : Frame) → (from_link k own r f ≡ true) ↔ StatusOfLink k own r f
 
 -- a seat hears exactly the frames with its own address, those with address 0, and the button statuses from links
-abbrev pub Hearing : Type 0
-Hearing =
+abbrev pub HeardFramesAre : Type 0
+HeardFramesAre =
     (k : Kind) (own : ℕ) (r : Record) (f : Frame) → (hears k own r f ≡ true) ↔ ((f.address ≡ own) ⊎ ((f.address ≡ 0) ⊎ StatusOfLink k own r f))
 
 -- a frame of that priority, address and bytes: RTR 0, its count is how many bytes there are, zeros fill the eight places
@@ -70,6 +89,7 @@ pub record PutIn (cells : List ℕ) (at : ℕ) (bs : List ℕ) : Type 0 where
   pub outside : (n : ℕ) → (n < at) ⊎ (at + length bs ≤ n) → slice_index (put cells at bs) n ≡ slice_index cells n
   pub size : length (put cells at bs) ≡ length cells
 
+-- whatever the cells and the bytes
 abbrev pub BytesArePut : Type 0
 BytesArePut = (cells : List ℕ) (at : ℕ) (bs : List ℕ) → PutIn cells at bs
 

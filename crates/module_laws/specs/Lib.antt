@@ -15,3 +15,4 @@ pub mod StateBytes
 pub mod AllMemory
 pub mod AllUnlisted
 pub mod AllPushes
+pub mod AllNew

@@ -73,15 +73,17 @@ pub record ChannelRead (r : Record) (c : ChannelNumber) : Type 0 where
       of_channel c (contacts r)
       ≡ running (slice_index r.state (4 * index c + 1) * 65536 + slice_index r.state (4 * index c + 2) * 256 + slice_index r.state (4 * index c + 3))
 
+-- each channel of each record
 abbrev pub ChannelsAreRead : Type 0
 ChannelsAreRead = (r : Record) (c : ChannelNumber) → ChannelRead r c
 
--- after any event the bytes of a channel say what it is: 0 0 0 0 open, 1 0 0 0 closed, 3 and the time, high byte first, running
+-- the bytes of a channel say what it is: 0 0 0 0 open, 1 0 0 0 closed, 3 and the time, high byte first, running
 pub record ChannelWritten (r : Record) (c : ChannelNumber) : Type 0 where
   pub open_at : of_channel c (contacts r) ≡ opened → Stand r.state (4 * index c) 0 0 0 0
   pub closed_at : of_channel c (contacts r) ≡ closed → Stand r.state (4 * index c) 1 0 0 0
   pub running_at : (n : ℕ) → of_channel c (contacts r) ≡ running n → Stand r.state (4 * index c) 3 (n / 65536) (n / 256 % 256) (n % 256)
 
+-- so does each event leave each channel of such state bytes
 abbrev pub ChannelsAreWritten : Kind → Type 0
 ChannelsAreWritten k =
     (own : ℕ) (r : Record) (e : Event) (c : ChannelNumber) → OfBytes e → RelayBytes r.state → ChannelWritten (k.acts own r e).after c
@@ -102,5 +104,6 @@ pub record InterfaceRead (s : List ℕ) : Type 0 where
   pub minute : (decoded s).clock.minute ≡ slice_index s 30
   pub second : (decoded s).clock.second ≡ slice_index s 31
 
+-- whatever the state bytes
 abbrev pub InterfacesAreRead : Type 0
 InterfacesAreRead = (s : List ℕ) → InterfaceRead s

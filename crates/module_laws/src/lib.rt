@@ -5,10 +5,11 @@
 ghost use Rattle.kinds.specs.Kinds.{panel_kind, EveryRelay, EveryPanel, EveryButtonInterface, EveryModule};
 ghost use Rattle.laws.specs.LampModes.{EveryKindWithLamps};
 ghost use Rattle.module_laws.specs.AllMemory.{OutOfRange, MemoryObeyed, CellsKept};
+ghost use Rattle.module_laws.specs.AllNew.{NewModules, RecordsAreInPlace};
 ghost use Rattle.module_laws.specs.AllPushes.{EveryPushTold};
-ghost use Rattle.module_laws.specs.AllSent.{SendsHeaded, SendsAsItself, AllButRelays, Sizes};
+ghost use Rattle.module_laws.specs.AllSent.{SendsWithHeader, SendsAsItself, HearsAnyPriority, AllButRelays, Sizes};
 ghost use Rattle.module_laws.specs.AllUnlisted.{EveryUnlistedIgnored};
-ghost use Rattle.module_laws.specs.Frames.{CommandsAre, StatusesAre, TypeRequestsAre, LinksAre, LinkStatusesAre, Hearing, MessagesAre, CellsAreNamed, BytesArePut, BitsAre};
+ghost use Rattle.module_laws.specs.Frames.{CommandsAre, StatusesAre, TypeRequestsAre, EachFrameHasBytes, WellFormedAre, LinksAre, LinkStatusesAre, HeardFramesAre, MessagesAre, CellsAreNamed, BytesArePut, BitsAre};
 ghost use Rattle.module_laws.specs.InterfaceCells.{RecordsAloneCount};
 ghost use Rattle.module_laws.specs.InterfaceClock.{ClockSet, ClockMoves};
 ghost use Rattle.module_laws.specs.InterfaceKeeps.{HoldsKept, PressedKept, ClockKept};
@@ -81,9 +82,11 @@ pub fn frame_laws() -> u8
     ensures commands { CommandsAre }
     ensures statuses { StatusesAre }
     ensures type_requests { TypeRequestsAre }
+    ensures bytes { EachFrameHasBytes }
+    ensures well_formed { WellFormedAre }
     ensures links { LinksAre }
     ensures link_statuses { LinkStatusesAre }
-    ensures hearing { Hearing }
+    ensures hearing { HeardFramesAre }
     ensures messages { MessagesAre }
     ensures cells { CellsAreNamed }
     ensures put { BytesArePut }
@@ -103,9 +106,11 @@ pub fn panel_laws() -> u8
 
 // What holds of all modules.
 pub fn all_module_laws() -> u8
-    ensures priorities { EveryModule SendsHeaded }
+    ensures priorities { EveryModule SendsWithHeader }
     ensures own_address { AllButRelays SendsAsItself }
+    ensures any_priority { EveryModule HearsAnyPriority }
     ensures sizes { Sizes }
+    ensures new { NewModules }
     ensures out_of_range { EveryModuleWith OutOfRange }
     ensures memory { EveryModuleWith MemoryObeyed }
     ensures cells_kept { EveryModule CellsKept }
@@ -120,6 +125,7 @@ pub fn state_byte_laws() -> u8
     ensures relay { EveryRelay (HasAlways RelayBytes 16) }
     ensures panel { EveryPanel (HasAlways PanelBytes 4) }
     ensures buttons { EveryButtonInterface (HasAlways InterfaceBytes 32) }
+    ensures places { RecordsAreInPlace }
     ensures channels_read { ChannelsAreRead }
     ensures channels_written { EveryRelay ChannelsAreWritten }
     ensures interface_read { InterfacesAreRead }
