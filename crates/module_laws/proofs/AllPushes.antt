@@ -21,11 +21,12 @@ use Rattle.laws.proofs.Bits.{bit_named}
 use Rattle.laws.proofs.Pushing.{push_moves, push_ignored}
 use Rattle.kinds.specs.Kinds.{panel_kind, buttons_kind}
 use Rattle.module_laws.specs.AllMemory.{NothingComes}
+use Rattle.module_laws.proofs.InterfaceStates.{same_hold}
 use Rattle.module_laws.specs.AllPushes.{is_down, is_free, ButtonShows, CannotShow, IsIgnored, PushesTold, EveryPushTold}
 use Rattle.module_laws.specs.StateBytes.{PanelBytes, InterfaceBytes}
 use Rattle.module_laws.proofs.AllMemory.{same_record}
 use Rattle.module_laws.proofs.StateBytes.{panel_told}
-use Rattle.module_laws.proofs.StateBytesInterface.{interface_told, holds_read}
+use Rattle.module_laws.proofs.StateBytesInterface.{interface_told}
 
 down_in_numbers : (r : Record) (c : ℕ) → down (get_or r.state 3 0) c ≡ is_down r c
 down_in_numbers r c = bit_named (get_or r.state 3 0) (c - 1)
@@ -112,6 +113,6 @@ every_push_told =
     record {
       panel = λ s. told (λ r c. false) (λ r c. true) (λ r c low high. refl) (panel_kind s) PanelBytes (push_moves.panel s) (push_ignored.panel s) (panel_stays s);
       buttons = λ s.
-          told (λ r c. locked (hold_on (decoded r.state).holds c)) is_free (λ r c low high. ap (λ h. not (eqb h 0)) (holds_read r.state c low high)) (buttons_kind s) InterfaceBytes (push_moves.buttons s) (push_ignored.buttons s)
+          told (λ r c. locked (hold_on (decoded r.state).holds c)) is_free (λ r c low high. ap (λ h. not (eqb h 0)) (sym (same_hold r c low high))) (buttons_kind s) InterfaceBytes (push_moves.buttons s) (push_ignored.buttons s)
           (interface_stays s);
     }

@@ -7,6 +7,7 @@ use Rattle.station.specs.declared.event.Event.TheVariants.{Pushed}
 use Rattle.station.specs.declared.event.Push.{Push}
 use Rattle.station.specs.Kinds.{Record, Outcome, Kind}
 use Rattle.kinds.specs.Kinds.{EveryPanel, EveryButtonInterface}
+use Rattle.module_laws.specs.InterfaceStates.{hold}
 use Rattle.module_laws.specs.AllMemory.{NothingComes}
 use Rattle.module_laws.specs.StateBytes.{PanelBytes, InterfaceBytes}
 
@@ -14,10 +15,9 @@ use Rattle.module_laws.specs.StateBytes.{PanelBytes, InterfaceBytes}
 abbrev pub is_down : Record → ℕ → Bool
 is_down r channel = slice_index r.state 3 / 2 ^ (channel - 1) % 2 == 1
 
--- the channel of a button interface is free: its hold, three bytes from the fifth state byte on, is 0
+-- the channel of a button interface is free: its hold is 0
 abbrev pub is_free : Record → ℕ → Bool
-is_free r channel =
-    slice_index r.state (4 + 3 * (channel - 1)) * 65536 + slice_index r.state (5 + 3 * (channel - 1)) * 256 + slice_index r.state (6 + 3 * (channel - 1)) == 0
+is_free r channel = hold r channel == 0
 
 -- exactly one frame is sent, of priority 0, with these bytes; the button is then down or not; the other buttons and the
 -- lamps stay
