@@ -15,7 +15,7 @@ use Rattle.button_laws.specs.Interfaces.{interface_kind}
 use Rattle.button_laws.specs.Examples.{eight, linked, pressed, lock, LinksAct, AsksOrNot, SetsOrNot}
 
 -- of n numbers from i on none passes a test, if none is found
-none_of : (t : ℕ → Bool) (i n : ℕ) → first t i n ≡ None → (k : ℕ) → i ≤ k → k < i + n → t k ≡ false
+pub none_of : (t : ℕ → Bool) (i n : ℕ) → first t i n ≡ None → (k : ℕ) → i ≤ k → k < i + n → t k ≡ false
 unfolding first
 none_of t i zero h k low high = absurd (omega arith)
 none_of t i (suc n) h k low high =

@@ -4,4 +4,4 @@ pub mod Replies
 pub mod Holding
 mod StatusBits
 pub mod Clocks
-mod Examples
+pub mod Examples

@@ -16,3 +16,4 @@ mod AllMemory
 mod AllUnlisted
 mod AllPushes
 mod AllNew
+mod Examples

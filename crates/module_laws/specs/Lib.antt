@@ -16,3 +16,4 @@ pub mod AllMemory
 pub mod AllUnlisted
 pub mod AllPushes
 pub mod AllNew
+pub mod Examples

@@ -2,6 +2,7 @@
 // stands in the contract of a function, so the crate is proved only if the law is.
 #![tactic(auto)]
 
+ghost use Rattle.interface.specs.declared.setup.InterfaceSetup.{InterfaceSetup};
 ghost use Rattle.kinds.specs.Kinds.{panel_kind, EveryRelay, EveryPanel, EveryButtonInterface, EveryModule};
 ghost use Rattle.laws.specs.LampModes.{EveryKindWithLamps};
 ghost use Rattle.module_laws.specs.AllMemory.{OutOfRange, MemoryObeyed, CellsKept};
@@ -9,6 +10,7 @@ ghost use Rattle.module_laws.specs.AllNew.{NewModules, RecordsAreInPlace};
 ghost use Rattle.module_laws.specs.AllPushes.{EveryPushTold};
 ghost use Rattle.module_laws.specs.AllSent.{SendsWithHeader, SendsAsItself, HearsAnyPriority, AllButRelays, Sizes};
 ghost use Rattle.module_laws.specs.AllUnlisted.{EveryUnlistedIgnored};
+ghost use Rattle.module_laws.specs.Examples.{RecordsFit, AsksOrNot, ListedOrNot, InRangeOrNot, StateBytesOrNot};
 ghost use Rattle.module_laws.specs.Frames.{CommandsAre, StatusesAre, TypeRequestsAre, EachFrameHasBytes, WellFormedAre, LinksAre, LinkStatusesAre, HeardFramesAre, MessagesAre, CellsAreNamed, BytesArePut, BitsAre};
 ghost use Rattle.module_laws.specs.InterfaceCells.{RecordsAloneCount};
 ghost use Rattle.module_laws.specs.InterfaceClock.{ClockSet, ClockMoves};
@@ -129,6 +131,17 @@ pub fn state_byte_laws() -> u8
     ensures channels_read { ChannelsAreRead }
     ensures channels_written { EveryRelay ChannelsAreWritten }
     ensures interface_read { InterfacesAreRead }
+{
+    0
+}
+
+// For each condition of these laws, what meets it and what does not.
+pub fn module_conditions_are_met() -> u8
+    ensures records { (s : InterfaceSetup) → RecordsFit s }
+    ensures asks { (s : InterfaceSetup) → AsksOrNot s }
+    ensures listed { (s : InterfaceSetup) → ListedOrNot s }
+    ensures range { InRangeOrNot }
+    ensures state_bytes { StateBytesOrNot }
 {
     0
 }
