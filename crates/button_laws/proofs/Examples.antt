@@ -1,15 +1,12 @@
 -- The examples are what is said of them. Assumes nothing.
-use Rattle.std.proofs.Common.{◌≡◌, ℕ, zero, suc, ◌+◌, ◌<◌, ◌≤◌, Bool, true, false, List, [], ◌∷◌, is_some, Some, None, Option, cond, refl, sym, ap, ◌∙◌, inl, inr, arith}
+use Rattle.std.proofs.Common.{◌≡◌, ℕ, zero, suc, ◌+◌, ◌<◌, ◌≤◌, Bool, true, false, List, [], ◌∷◌, is_some, Some, None, refl, sym, ap, ◌∙◌, inl, inr, arith}
 use Rattle.std.proofs.lemmas.Bool.{cond-true, cond-false, cases_Bool, cases_eq, false≢true, true≢false}
-use Rattle.bus.specs.declared.frame.Frame.{Frame}
 use Rattle.station.specs.declared.edge.Edge.TheVariants.{Press}
 use Rattle.station.specs.declared.event.Event.{Event}
 use Rattle.station.specs.declared.event.Event.TheVariants.{Heard, Second, Pushed}
-use Rattle.station.specs.Kinds.{Record, from_link}
 use Rattle.station.specs.Rules.{later}
 use Rattle.module.specs.Searches.{first}
 use Rattle.interface.specs.declared.setup.InterfaceSetup.{InterfaceSetup}
-use Rattle.interface.specs.declared.variant.Variant.{Variant}
 use Rattle.button_laws.specs.Holding.{record_acts, ActsAlone, ActsLast}
 use Rattle.button_laws.specs.Interfaces.{interface_kind}
 use Rattle.button_laws.specs.Examples.{eight, linked, pressed, lock, LinksAct, AsksOrNot, SetsOrNot}

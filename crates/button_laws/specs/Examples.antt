@@ -1,12 +1,12 @@
 -- For each condition of the laws, what meets it and what does not. Assumes nothing.
-use Rattle.std.specs.Prelude.{◌≡◌, ℕ, true, List, [], ◌∷◌, ◌++◌, replicate}
+use Rattle.std.specs.Prelude.{◌≡◌, ℕ, true, [], ◌∷◌, ◌++◌, replicate}
 use Rattle.bus.specs.declared.frame.Frame.{Frame}
 use Rattle.bus.specs.Frames.{message}
 use Rattle.station.specs.declared.edge.Edge.TheVariants.{Press}
 use Rattle.station.specs.declared.event.Event.TheVariants.{Heard, Second, Pushed}
 use Rattle.station.specs.Kinds.{Record, from_link}
 use Rattle.station.specs.Rules.{put}
-use Rattle.timing.specs.Times.{Time, Real}
+use Rattle.timing.specs.Times.{Real}
 use Rattle.interface.specs.declared.setup.InterfaceSetup.{InterfaceSetup}
 use Rattle.interface.specs.declared.variant.Variant.{Variant}
 use Rattle.button_laws.specs.Clocks.{NoneSets}

@@ -1,9 +1,8 @@
 -- Memories that differ only in cells that do not count. Assumes nothing.
-use Rattle.std.proofs.Common.{◌≡◌, ℕ, zero, suc, ◌+◌, ◌<◌, ◌≤◌, Bool, cond, eqb, leb, List, [], ◌∷◌, length, get_or, set, Some, sym, refl, ap, ◌∙◌, subst, inl, inr, length-set, arith}
+use Rattle.std.proofs.Common.{◌≡◌, ℕ, zero, suc, ◌+◌, ◌<◌, ◌≤◌, Bool, cond, leb, List, [], ◌∷◌, length, get_or, set, Some, sym, refl, ap, ◌∙◌, subst, inl, inr, length-set, arith}
 use Rattle.std.proofs.lemmas.List.{get_or-set_same, get_or-set_other}
 use Rattle.std.proofs.lemmas.Bool.{cond-true, cond-false, cond_both, leb-true, cases_eq}
 use Rattle.bus.specs.declared.frame.Frame.{Frame}
-use Rattle.station.specs.declared.event.Event.{Event}
 use Rattle.station.specs.Kinds.{Record, Kind}
 use Rattle.station.specs.Rules.{cell, payload, put, stored}
 use Rattle.module.specs.Searches.{first}

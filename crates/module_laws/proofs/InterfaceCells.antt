@@ -1,18 +1,15 @@
 -- Which cells of a button interface say nothing. Assumes nothing.
-use Rattle.std.proofs.Common.{◌≡◌, ℕ, zero, suc, ◌+◌, ◌*◌, ◌<◌, ◌≤◌, Bool, true, false, cond, not, ◌&&◌, ◌||◌, eqb, ltb, leb, List, [], ◌∷◌, ◌++◌, length, get_or, set, is_some, Some, sym, refl, ap, ◌∙◌, subst, inl, inr, length-set, arith}
+use Rattle.std.proofs.Common.{◌≡◌, ℕ, zero, suc, ◌+◌, ◌*◌, ◌<◌, Bool, true, false, cond, not, ◌&&◌, ◌||◌, eqb, ltb, List, [], ◌++◌, is_some, sym, refl, ap, ◌∙◌, subst, arith}
 use lib.Bits.{bit_and}
-use Rattle.std.proofs.lemmas.List.{get_or-set_same, get_or-set_other}
-use Rattle.std.proofs.lemmas.Bool.{cond-true, cond-false, cond_both, or_parts, or_from, leb-true, cases_eq}
+use Rattle.std.proofs.lemmas.Bool.{cond-false, or_parts, or_from}
 use Rattle.bus.specs.declared.frame.Frame.{Frame}
 use Rattle.bus.specs.Frames.{byte, is_command}
 use Rattle.station.specs.declared.event.Event.{Event}
 use Rattle.station.specs.declared.event.Event.TheVariants.{Heard, Second, Pushed}
 use Rattle.station.specs.Kinds.{Record, Outcome, from_link, links, is_status}
-use Rattle.station.specs.Rules.{cell, payload, put, stored}
 use Rattle.module.specs.Bits.{has_bit}
 use Rattle.module.specs.Designs.{idle}
 use Rattle.module.specs.Memories.{memory_sent}
-use Rattle.module.specs.Searches.{first}
 use Rattle.interface.specs.declared.setup.InterfaceSetup.{InterfaceSetup}
 use Rattle.interface.specs.Channels.{held_after}
 use Rattle.interface.specs.Interfaces.{status_sent, type_sent, clock_sent, after_command, after_broadcast, after_second, after_push, pushed_sent}

@@ -1,7 +1,7 @@
 -- What alone changes the holds, the pressed buttons, the lamps and the clock of a button interface. Assumes nothing.
 use Rattle.std.proofs.Common.{◌≡◌, ℕ, zero, suc, ◌+◌, ◌-◌, ◌*◌, ◌<◌, ◌≤◌, Bool, true, false, cond, ◌&&◌, ◌||◌, eqb, ltb, List, get_or, is_some, Some, None, Option, sym, refl, ap, ◌∙◌, inl, inr, arith}
 use lib.Bits.{bit_and}
-use Rattle.std.proofs.lemmas.Bool.{cases_Bool, or_parts, and_left, and_right, cond-false, cond_both, ne_eqb, eqb-true, lt-ltb}
+use Rattle.std.proofs.lemmas.Bool.{cases_Bool, and_left, and_right, cond-false, cond_both, ne_eqb, eqb-true, lt-ltb}
 use Rattle.bus.specs.declared.frame.Frame.{Frame}
 use Rattle.bus.specs.Frames.{byte, is_command, seconds_in}
 use Rattle.station.specs.declared.event.Event.{Event}
@@ -10,7 +10,6 @@ use Rattle.station.specs.Kinds.{Record, Outcome, from_link}
 use Rattle.module.specs.Bits.{has_bit}
 use Rattle.module.specs.Pushes.{bit}
 use Rattle.module.specs.declared.lamps.Lamps.{Lamps}
-use Rattle.module.specs.LampBytes.{lamps_after}
 use Rattle.timing.specs.declared.locking.Locking.TheVariants.{Lock, Unlock}
 use Rattle.timing.specs.Holds.{ticked}
 use Rattle.timing.specs.TimeCodes.{hold_of_code}

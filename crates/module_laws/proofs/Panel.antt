@@ -1,6 +1,6 @@
 -- What alone changes a panel, what it answers, and that it links nobody. Assumes nothing.
-use Rattle.std.proofs.Common.{◌≡◌, ℕ, zero, suc, ◌<◌, true, false, not, ◌&&◌, ◌||◌, eqb, ltb, List, [], ◌∷◌, ◌++◌, get_or, refl, ap, ◌∙◌, arith}
-use Rattle.std.proofs.lemmas.Bool.{cond-true, cond-false, cond_both, and_parts, and_from, and_left, and_right, or_parts, or_from, eqb-true, eq-eqb, ne_eqb}
+use Rattle.std.proofs.Common.{◌≡◌, ℕ, true, false, not, ◌&&◌, ◌||◌, eqb, ltb, List, [], ◌∷◌, ◌++◌, get_or, refl, ap, ◌∙◌}
+use Rattle.std.proofs.lemmas.Bool.{cond-true, cond-false, cond_both, and_parts, and_from, and_left, and_right, or_from, eqb-true, eq-eqb, ne_eqb}
 use Rattle.bus.specs.declared.frame.Frame.{Frame}
 use Rattle.bus.specs.Frames.{byte, is_command, message}
 use Rattle.bus.proofs.Commands.{other_command}
@@ -8,7 +8,6 @@ use Rattle.station.specs.declared.event.Event.TheVariants.{Heard, Second, Pushed
 use Rattle.station.specs.Kinds.{Outcome}
 use Rattle.module.specs.declared.lamps.Lamps.{Lamps}
 use Rattle.module.specs.Designs.{idle}
-use Rattle.module.specs.LampBytes.{lamps_after}
 use Rattle.module.specs.Memories.{memory_sent}
 use Rattle.module.proofs.Answered.{at_own}
 use Rattle.panel.specs.declared.panel.PanelSetup.{PanelSetup}

@@ -1,5 +1,5 @@
 -- What a push at a button of a panel or of a button interface does, in numbers. Assumes nothing.
-use Rattle.std.specs.Prelude.{◌≡◌, ◌≢◌, ℕ, ◌+◌, ◌-◌, ◌*◌, ◌/◌, ◌%◌, ◌^◌, ◌<◌, ◌≤◌, ◌==◌, ◌⊎◌, Bool, true, false, List, [], ◌∷◌, slice_index}
+use Rattle.std.specs.Prelude.{◌≡◌, ◌≢◌, ℕ, ◌-◌, ◌/◌, ◌%◌, ◌^◌, ◌<◌, ◌≤◌, ◌==◌, ◌⊎◌, Bool, true, false, List, [], ◌∷◌, slice_index}
 use Rattle.bus.specs.Frames.{message}
 use Rattle.station.specs.declared.edge.Edge.{Edge}
 use Rattle.station.specs.declared.edge.Edge.TheVariants.{Press, Release, LongPress}

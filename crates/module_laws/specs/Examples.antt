@@ -1,18 +1,14 @@
 -- For each condition of the laws here, what meets it and what does not. Assumes nothing.
-use Rattle.std.specs.Prelude.{◌≡◌, ℕ, ◌+◌, ◌≤◌, ◌<◌, true, false, List, [], ◌∷◌, length, replicate}
-use Rattle.bus.specs.declared.frame.Frame.{Frame}
+use Rattle.std.specs.Prelude.{◌≡◌, ◌+◌, ◌≤◌, ◌<◌, true, false, [], ◌∷◌, replicate}
 use Rattle.bus.specs.Frames.{message}
 use Rattle.station.specs.declared.edge.Edge.TheVariants.{Press}
-use Rattle.station.specs.declared.event.Event.{Event}
 use Rattle.station.specs.declared.event.Event.TheVariants.{Heard, Second, Pushed}
-use Rattle.station.specs.Kinds.{Record, from_link}
+use Rattle.station.specs.Kinds.{from_link}
 use Rattle.interface.specs.declared.setup.InterfaceSetup.{InterfaceSetup}
 use Rattle.kinds.specs.Kinds.{buttons_kind}
 use Rattle.button_laws.specs.Examples.{linked, pressed, lock, unlock, set_clock}
-use Rattle.laws.specs.CountingCells.{AlikeRecords}
 use Rattle.module_laws.specs.AllMemory.{named_cell}
 use Rattle.module_laws.specs.AllUnlisted.{IsUnlisted, of_interface}
-use Rattle.module_laws.specs.InterfaceCells.{Counts}
 use Rattle.module_laws.specs.InterfaceRecords.{fits, SomeRecordBears}
 use Rattle.module_laws.specs.InterfaceReplies.{AsksForNone}
 use Rattle.module_laws.specs.InterfaceStates.{hold}

@@ -1,5 +1,5 @@
 -- What alone changes a panel, what it answers, and that it links nobody. Assumes nothing.
-use Rattle.std.specs.Prelude.{◌≡◌, ℕ, ◌<◌, true, false, [], ◌∷◌, slice_index}
+use Rattle.std.specs.Prelude.{◌≡◌, ℕ, true, false, [], ◌∷◌, slice_index}
 use Rattle.bus.specs.declared.frame.Frame.{Frame}
 use Rattle.bus.specs.Frames.{is_command, message}
 use Rattle.station.specs.declared.event.Event.TheVariants.{Heard}

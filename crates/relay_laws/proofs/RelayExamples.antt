@@ -1,11 +1,10 @@
 -- The examples are what is said of them. Assumes nothing.
-use Rattle.std.proofs.Common.{◌≡◌, ℕ, zero, suc, ◌+◌, ◌*◌, ◌<◌, ◌≤◌, ◌≢◌, Bool, false, is_some, Some, None, refl, sym, ap, ◌∙◌, inl, inr, length-set, arith}
-use Rattle.std.proofs.lemmas.Bool.{cond-true, cond-false, cases_Bool, cases_eq, false≢true, true≢false}
+use Rattle.std.proofs.Common.{◌+◌, ◌*◌, ◌≢◌, refl, sym, ◌∙◌, inl, length-set, arith}
+use Rattle.std.proofs.lemmas.Bool.{false≢true, true≢false}
 use Rattle.std.proofs.lemmas.List.{get_or-set_other}
 use Rattle.module.specs.Searches.{first}
 use Rattle.relay.specs.declared.relay.RelaySetup.{RelaySetup}
-use Rattle.laws.specs.Channels.{ChannelNumber, channel_1, channel_2}
-use Rattle.relay_laws.specs.RelayReports.{fits}
+use Rattle.laws.specs.Channels.{channel_1, channel_2}
 use Rattle.relay_laws.specs.RelayExamples.{linked, pressed, PairsFit, CommandsAsk, AsksOrNot}
 use Rattle.laws.specs.Pairs.{FirstMatch, NoMatch}
 use Rattle.laws.proofs.Pairs.{first_pair_found, no_pair_found}

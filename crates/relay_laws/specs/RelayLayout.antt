@@ -1,11 +1,8 @@
 -- Where the pairs of a relay stand in its memory, and which cells say nothing. Assumes nothing.
-use Rattle.std.specs.Prelude.{◌≡◌, ℕ, ◌+◌, ◌*◌, ◌%◌, ◌<◌, ◌≤◌, ◌≢◌, min, max, Bool, true, false, not, ◌&&◌, ◌||◌, ◌⊎◌, ◌↔◌, List, length, ◌==◌, bit_and, slice_index}
+use Rattle.std.specs.Prelude.{◌≡◌, ℕ, ◌+◌, ◌*◌, ◌%◌, ◌<◌, ◌≤◌, ◌≢◌, min, max, Bool, true, false, not, ◌&&◌, ◌⊎◌, ◌↔◌, List, ◌==◌, bit_and, slice_index}
 use Rattle.bus.specs.declared.frame.Frame.{Frame}
-use Rattle.bus.specs.Frames.{is_command}
-use Rattle.station.specs.declared.event.Event.{Event}
-use Rattle.station.specs.declared.event.Event.TheVariants.{Heard, Second, Pushed}
+use Rattle.station.specs.declared.event.Event.TheVariants.{Heard}
 use Rattle.station.specs.Kinds.{Record, Kind, from_link, links}
-use Rattle.station.specs.Rules.{later}
 use Rattle.relay.specs.declared.relay.RelaySetup.{RelaySetup}
 use Rattle.relay.specs.declared.timers.Timers.{Timers}
 use Rattle.relay.specs.Contacts.{Contact, opened, closed, running}
