@@ -4,6 +4,7 @@ use crate::fixture::Input::{Push, Put, Second};
 use crate::fixture::{Input, timer_case};
 use crate::relay_cases::{PRESSED, RELEASED, link, linked};
 use relay::{PerChannel, Timers};
+use std::process::Abort;
 use std::test::*;
 
 const DIFFERENT: PerChannel<Timers> = PerChannel {
@@ -45,6 +46,12 @@ const OUT_OF_RANGE: PerChannel<Timers> = PerChannel {
     },
 };
 
+const NONE: [u8; 3] = [0; 3];
+
+const ONE: [u8; 3] = [0, 0, 1];
+
+const HIGHEST: [u8; 3] = [0xFF, 0xFF, 0xFE];
+
 const PRESS: Input = Push(0x20, 1, 0);
 
 const RELEASE: Input = Push(0x20, 1, 1);
@@ -64,565 +71,266 @@ fn ask(bits: u8) -> Input {
     Put([3, 0x10, 0, 2, 0xFA, bits, 0, 0, 0, 0, 0, 0])
 }
 
-// Table 4 of channel 2, at cell 0178: an open channel runs for timer 1, a running or a closed one opens.
+// The status of a channel: 0 open, 1 closed, 3 running, with the time left.
+fn status(bit: u8, state: u8, [high, mid, low]: [u8; 3]) -> [u8; 12] {
+    [3, 0x10, 0, 8, 0xFB, bit, 0, state, 0, high, mid, low]
+}
+
+// Which channels closed, and which opened.
+fn switched(closed: u8, opened: u8) -> [u8; 12] {
+    [0, 0x10, 0, 4, 0x00, closed, opened, 0, 0, 0, 0, 0]
+}
+
+// The lamps of the panel: on by F6, out by F5.
+fn lamps(command: u8, bits: u8) -> [u8; 12] {
+    [3, 0x20, 0, 2, command, bits, 0, 0, 0, 0, 0, 0]
+}
+
+// By a pair in a table that toggles a timer: an open channel runs for this time; one that runs opens, one that is closed, and
+// one that runs by a command.
+fn toggles(
+    rt: &(impl Abort + AllocGlobal),
+    [high, low]: [u8; 2],
+    channel: u8,
+    bits: u8,
+    time: [u8; 3],
+) -> Result<(), Fail> {
+    let opens = [
+        status(channel, 0, NONE),
+        switched(0, channel),
+        lamps(0xF5, bits),
+    ];
+    timer_case(
+        rt,
+        DIFFERENT,
+        &[
+            link(high, low, 0x20, bits),
+            PRESS,
+            RELEASE,
+            PRESS,
+            RELEASE,
+            close(channel),
+            PRESS,
+            RELEASE,
+            run(channel),
+            PRESS,
+        ],
+        &[
+            linked(high, low, 0x20, bits),
+            PRESSED,
+            status(channel, 3, time),
+            switched(channel, 0),
+            lamps(0xF6, bits),
+            RELEASED,
+            PRESSED,
+            opens[0],
+            opens[1],
+            opens[2],
+            RELEASED,
+            status(channel, 1, NONE),
+            switched(channel, 0),
+            PRESSED,
+            opens[0],
+            opens[1],
+            opens[2],
+            RELEASED,
+            status(channel, 3, [0, 0, 9]),
+            switched(channel, 0),
+            PRESSED,
+            opens[0],
+            opens[1],
+            opens[2],
+        ],
+    )
+}
+
+// Table 4 of channel 2.
 #[test]
 fn toggle_timer_1(rt: HostRuntime) -> Result<(), Fail> {
-    timer_case(
-        &rt,
-        DIFFERENT,
-        &[
-            link(0x01, 0x78, 0x20, 0x81),
-            PRESS,
-            RELEASE,
-            PRESS,
-            RELEASE,
-            close(0x02),
-            PRESS,
-            RELEASE,
-            run(0x02),
-            PRESS,
-        ],
-        &[
-            linked(0x01, 0x78, 0x20, 0x81),
-            PRESSED,
-            [3, 0x10, 0, 8, 0xFB, 0x02, 0, 3, 0, 0x04, 0x05, 0x06],
-            [0, 0x10, 0, 4, 0x00, 0x02, 0, 0, 0, 0, 0, 0],
-            [3, 0x20, 0, 2, 0xF6, 0x81, 0, 0, 0, 0, 0, 0],
-            RELEASED,
-            PRESSED,
-            [3, 0x10, 0, 8, 0xFB, 0x02, 0, 0, 0, 0, 0, 0],
-            [0, 0x10, 0, 4, 0x00, 0, 0x02, 0, 0, 0, 0, 0],
-            [3, 0x20, 0, 2, 0xF5, 0x81, 0, 0, 0, 0, 0, 0],
-            RELEASED,
-            [3, 0x10, 0, 8, 0xFB, 0x02, 0, 1, 0, 0, 0, 0],
-            [0, 0x10, 0, 4, 0x00, 0x02, 0, 0, 0, 0, 0, 0],
-            PRESSED,
-            [3, 0x10, 0, 8, 0xFB, 0x02, 0, 0, 0, 0, 0, 0],
-            [0, 0x10, 0, 4, 0x00, 0, 0x02, 0, 0, 0, 0, 0],
-            [3, 0x20, 0, 2, 0xF5, 0x81, 0, 0, 0, 0, 0, 0],
-            RELEASED,
-            [3, 0x10, 0, 8, 0xFB, 0x02, 0, 3, 0, 0, 0, 9],
-            [0, 0x10, 0, 4, 0x00, 0x02, 0, 0, 0, 0, 0, 0],
-            PRESSED,
-            [3, 0x10, 0, 8, 0xFB, 0x02, 0, 0, 0, 0, 0, 0],
-            [0, 0x10, 0, 4, 0x00, 0, 0x02, 0, 0, 0, 0, 0],
-            [3, 0x20, 0, 2, 0xF5, 0x81, 0, 0, 0, 0, 0, 0],
-        ],
-    )
+    toggles(&rt, [0x01, 0x78], 0x02, 0x81, [0x04, 0x05, 0x06])
 }
 
-// Table 4 of channel 1, at cell 0078, where timer 1 is 2 seconds: they are over with the second one, without a lamp frame.
-#[test]
-fn toggle_timer_1_ends(rt: HostRuntime) -> Result<(), Fail> {
-    timer_case(
-        &rt,
-        DIFFERENT,
-        &[
-            link(0x00, 0x78, 0x20, 0x01),
-            PRESS,
-            Second,
-            ask(0x01),
-            Second,
-            Second,
-        ],
-        &[
-            linked(0x00, 0x78, 0x20, 0x01),
-            PRESSED,
-            [3, 0x10, 0, 8, 0xFB, 0x01, 0, 3, 0, 0, 0, 2],
-            [0, 0x10, 0, 4, 0x00, 0x01, 0, 0, 0, 0, 0, 0],
-            [3, 0x20, 0, 2, 0xF6, 0x01, 0, 0, 0, 0, 0, 0],
-            [3, 0x10, 0, 8, 0xFB, 0x01, 0, 3, 0, 0, 0, 1],
-            [3, 0x10, 0, 8, 0xFB, 0x01, 0, 0, 0, 0, 0, 0],
-            [0, 0x10, 0, 4, 0x00, 0, 0x01, 0, 0, 0, 0, 0],
-        ],
-    )
-}
-
-// Table 5 of channel 1, at cell 0096: an open channel runs for timer 2, a running or a closed one opens.
+// Table 5 of channels 1 and 3.
 #[test]
 fn toggle_timer_2(rt: HostRuntime) -> Result<(), Fail> {
+    toggles(&rt, [0x00, 0x96], 0x01, 0x21, [0x01, 0x02, 0x03])?;
+    toggles(&rt, [0x02, 0x96], 0x04, 0x11, [0, 0, 3])
+}
+
+// By a pair in a table that starts a timer: whatever the channel does, it runs for the whole time then, and only one that was
+// open tells it. A second later `left` is left.
+fn starts(
+    rt: &(impl Abort + AllocGlobal),
+    [high, low]: [u8; 2],
+    channel: u8,
+    time: [u8; 3],
+    left: [u8; 3],
+) -> Result<(), Fail> {
     timer_case(
-        &rt,
+        rt,
         DIFFERENT,
         &[
-            link(0x00, 0x96, 0x20, 0x21),
+            link(high, low, 0x20, 0x03),
             PRESS,
+            Second,
+            ask(channel),
             RELEASE,
             PRESS,
+            ask(channel),
+            run(channel),
             RELEASE,
-            close(0x01),
             PRESS,
+            ask(channel),
+            close(channel),
             RELEASE,
-            run(0x01),
             PRESS,
+            ask(channel),
         ],
         &[
-            linked(0x00, 0x96, 0x20, 0x21),
+            linked(high, low, 0x20, 0x03),
             PRESSED,
-            [3, 0x10, 0, 8, 0xFB, 0x01, 0, 3, 0, 0x01, 0x02, 0x03],
-            [0, 0x10, 0, 4, 0x00, 0x01, 0, 0, 0, 0, 0, 0],
-            [3, 0x20, 0, 2, 0xF6, 0x21, 0, 0, 0, 0, 0, 0],
+            status(channel, 3, time),
+            switched(channel, 0),
+            lamps(0xF6, 0x03),
+            status(channel, 3, left),
             RELEASED,
             PRESSED,
-            [3, 0x10, 0, 8, 0xFB, 0x01, 0, 0, 0, 0, 0, 0],
-            [0, 0x10, 0, 4, 0x00, 0, 0x01, 0, 0, 0, 0, 0],
-            [3, 0x20, 0, 2, 0xF5, 0x21, 0, 0, 0, 0, 0, 0],
+            status(channel, 3, time),
             RELEASED,
-            [3, 0x10, 0, 8, 0xFB, 0x01, 0, 1, 0, 0, 0, 0],
-            [0, 0x10, 0, 4, 0x00, 0x01, 0, 0, 0, 0, 0, 0],
             PRESSED,
-            [3, 0x10, 0, 8, 0xFB, 0x01, 0, 0, 0, 0, 0, 0],
-            [0, 0x10, 0, 4, 0x00, 0, 0x01, 0, 0, 0, 0, 0],
-            [3, 0x20, 0, 2, 0xF5, 0x21, 0, 0, 0, 0, 0, 0],
+            status(channel, 3, time),
             RELEASED,
-            [3, 0x10, 0, 8, 0xFB, 0x01, 0, 3, 0, 0, 0, 9],
-            [0, 0x10, 0, 4, 0x00, 0x01, 0, 0, 0, 0, 0, 0],
             PRESSED,
-            [3, 0x10, 0, 8, 0xFB, 0x01, 0, 0, 0, 0, 0, 0],
-            [0, 0x10, 0, 4, 0x00, 0, 0x01, 0, 0, 0, 0, 0],
-            [3, 0x20, 0, 2, 0xF5, 0x21, 0, 0, 0, 0, 0, 0],
+            status(channel, 3, time),
         ],
     )
 }
 
-// Table 5 of channel 3, at cell 0296, where timer 2 is 3 seconds: they are over with the third one. On a running and on a
-// closed channel the button opens.
-#[test]
-fn toggle_timer_2_ends(rt: HostRuntime) -> Result<(), Fail> {
-    timer_case(
-        &rt,
-        DIFFERENT,
-        &[
-            link(0x02, 0x96, 0x20, 0x11),
-            PRESS,
-            RELEASE,
-            Second,
-            ask(0x04),
-            Second,
-            ask(0x04),
-            Second,
-            run(0x04),
-            PRESS,
-            RELEASE,
-            close(0x04),
-            PRESS,
-        ],
-        &[
-            linked(0x02, 0x96, 0x20, 0x11),
-            PRESSED,
-            [3, 0x10, 0, 8, 0xFB, 0x04, 0, 3, 0, 0, 0, 3],
-            [0, 0x10, 0, 4, 0x00, 0x04, 0, 0, 0, 0, 0, 0],
-            [3, 0x20, 0, 2, 0xF6, 0x11, 0, 0, 0, 0, 0, 0],
-            RELEASED,
-            [3, 0x10, 0, 8, 0xFB, 0x04, 0, 3, 0, 0, 0, 2],
-            [3, 0x10, 0, 8, 0xFB, 0x04, 0, 3, 0, 0, 0, 1],
-            [3, 0x10, 0, 8, 0xFB, 0x04, 0, 0, 0, 0, 0, 0],
-            [0, 0x10, 0, 4, 0x00, 0, 0x04, 0, 0, 0, 0, 0],
-            [3, 0x10, 0, 8, 0xFB, 0x04, 0, 3, 0, 0, 0, 9],
-            [0, 0x10, 0, 4, 0x00, 0x04, 0, 0, 0, 0, 0, 0],
-            PRESSED,
-            [3, 0x10, 0, 8, 0xFB, 0x04, 0, 0, 0, 0, 0, 0],
-            [0, 0x10, 0, 4, 0x00, 0, 0x04, 0, 0, 0, 0, 0],
-            [3, 0x20, 0, 2, 0xF5, 0x11, 0, 0, 0, 0, 0, 0],
-            RELEASED,
-            [3, 0x10, 0, 8, 0xFB, 0x04, 0, 1, 0, 0, 0, 0],
-            [0, 0x10, 0, 4, 0x00, 0x04, 0, 0, 0, 0, 0, 0],
-            PRESSED,
-            [3, 0x10, 0, 8, 0xFB, 0x04, 0, 0, 0, 0, 0, 0],
-            [0, 0x10, 0, 4, 0x00, 0, 0x04, 0, 0, 0, 0, 0],
-            [3, 0x20, 0, 2, 0xF5, 0x11, 0, 0, 0, 0, 0, 0],
-        ],
-    )
-}
-
-// Table 6 of channel 3, at cell 02B4: whatever the channel does, it runs for the whole of timer 1 then, and only the open
-// one tells it.
+// Table 6 of channel 3.
 #[test]
 fn start_timer_1(rt: HostRuntime) -> Result<(), Fail> {
-    timer_case(
+    starts(
         &rt,
-        DIFFERENT,
-        &[
-            link(0x02, 0xB4, 0x20, 0x03),
-            PRESS,
-            RELEASE,
-            Second,
-            ask(0x04),
-            PRESS,
-            ask(0x04),
-            RELEASE,
-            run(0x04),
-            PRESS,
-            ask(0x04),
-            RELEASE,
-            close(0x04),
-            ask(0x04),
-            PRESS,
-            ask(0x04),
-        ],
-        &[
-            linked(0x02, 0xB4, 0x20, 0x03),
-            PRESSED,
-            [3, 0x10, 0, 8, 0xFB, 0x04, 0, 3, 0, 0x0A, 0x0B, 0x0C],
-            [0, 0x10, 0, 4, 0x00, 0x04, 0, 0, 0, 0, 0, 0],
-            [3, 0x20, 0, 2, 0xF6, 0x03, 0, 0, 0, 0, 0, 0],
-            RELEASED,
-            [3, 0x10, 0, 8, 0xFB, 0x04, 0, 3, 0, 0x0A, 0x0B, 0x0B],
-            PRESSED,
-            [3, 0x10, 0, 8, 0xFB, 0x04, 0, 3, 0, 0x0A, 0x0B, 0x0C],
-            RELEASED,
-            PRESSED,
-            [3, 0x10, 0, 8, 0xFB, 0x04, 0, 3, 0, 0x0A, 0x0B, 0x0C],
-            RELEASED,
-            [3, 0x10, 0, 8, 0xFB, 0x04, 0, 1, 0, 0, 0, 0],
-            PRESSED,
-            [3, 0x10, 0, 8, 0xFB, 0x04, 0, 3, 0, 0x0A, 0x0B, 0x0C],
-        ],
+        [0x02, 0xB4],
+        0x04,
+        [0x0A, 0x0B, 0x0C],
+        [0x0A, 0x0B, 0x0B],
     )
 }
 
-// Table 7 of channel 2, at cell 01D2: whatever the channel does, it runs for the whole of timer 2 then, and only the open
-// one tells it.
+// Table 7 of channel 2.
 #[test]
 fn start_timer_2(rt: HostRuntime) -> Result<(), Fail> {
-    timer_case(
+    starts(
         &rt,
-        DIFFERENT,
+        [0x01, 0xD2],
+        0x02,
+        [0x07, 0x08, 0x09],
+        [0x07, 0x08, 0x08],
+    )
+}
+
+// One press starts four channels, each by the table that begins at this cell of its quarter, for this time: nine frames.
+fn starts_four(
+    rt: &(impl Abort + AllocGlobal),
+    timers: PerChannel<Timers>,
+    cells: [u8; 4],
+    times: [[u8; 3]; 4],
+) -> Result<(), Fail> {
+    timer_case(
+        rt,
+        timers,
         &[
-            link(0x01, 0xD2, 0x20, 0x41),
+            link(0x00, cells[0], 0x20, 0x01),
+            link(0x01, cells[1], 0x20, 0x03),
+            link(0x02, cells[2], 0x20, 0x05),
+            link(0x03, cells[3], 0x20, 0x09),
             PRESS,
-            RELEASE,
-            Second,
-            ask(0x02),
-            PRESS,
-            ask(0x02),
-            RELEASE,
-            run(0x02),
-            PRESS,
-            ask(0x02),
-            RELEASE,
-            close(0x02),
-            ask(0x02),
-            PRESS,
-            ask(0x02),
         ],
         &[
-            linked(0x01, 0xD2, 0x20, 0x41),
+            linked(0x00, cells[0], 0x20, 0x01),
+            linked(0x01, cells[1], 0x20, 0x03),
+            linked(0x02, cells[2], 0x20, 0x05),
+            linked(0x03, cells[3], 0x20, 0x09),
             PRESSED,
-            [3, 0x10, 0, 8, 0xFB, 0x02, 0, 3, 0, 0x07, 0x08, 0x09],
-            [0, 0x10, 0, 4, 0x00, 0x02, 0, 0, 0, 0, 0, 0],
-            [3, 0x20, 0, 2, 0xF6, 0x41, 0, 0, 0, 0, 0, 0],
-            RELEASED,
-            [3, 0x10, 0, 8, 0xFB, 0x02, 0, 3, 0, 0x07, 0x08, 0x08],
-            PRESSED,
-            [3, 0x10, 0, 8, 0xFB, 0x02, 0, 3, 0, 0x07, 0x08, 0x09],
-            RELEASED,
-            PRESSED,
-            [3, 0x10, 0, 8, 0xFB, 0x02, 0, 3, 0, 0x07, 0x08, 0x09],
-            RELEASED,
-            [3, 0x10, 0, 8, 0xFB, 0x02, 0, 1, 0, 0, 0, 0],
-            PRESSED,
-            [3, 0x10, 0, 8, 0xFB, 0x02, 0, 3, 0, 0x07, 0x08, 0x09],
+            status(0x01, 3, times[0]),
+            status(0x02, 3, times[1]),
+            status(0x04, 3, times[2]),
+            status(0x08, 3, times[3]),
+            switched(0x0F, 0),
+            lamps(0xF6, 0x01),
+            lamps(0xF6, 0x03),
+            lamps(0xF6, 0x05),
+            lamps(0xF6, 0x09),
         ],
     )
 }
 
-// One press starts four channels, each by another table. This test and the next three have each table in each channel.
+// Each of tables 4 to 7 on each channel.
 #[test]
-fn tables_4_5_6_7(rt: HostRuntime) -> Result<(), Fail> {
+fn tables_on_channels(rt: HostRuntime) -> Result<(), Fail> {
+    let firsts_and_seconds = [
+        [0, 0, 2],
+        [0x07, 0x08, 0x09],
+        [0x0A, 0x0B, 0x0C],
+        [0x10, 0x11, 0x12],
+    ];
+    let seconds_and_firsts = [
+        [0x01, 0x02, 0x03],
+        [0x04, 0x05, 0x06],
+        [0, 0, 3],
+        [0x0D, 0x0E, 0x0F],
+    ];
+    starts_four(&rt, DIFFERENT, [0x78, 0x96, 0xB4, 0xD2], firsts_and_seconds)?;
+    starts_four(&rt, DIFFERENT, [0x96, 0xB4, 0xD2, 0x78], seconds_and_firsts)?;
+    starts_four(&rt, DIFFERENT, [0xB4, 0xD2, 0x78, 0x96], firsts_and_seconds)?;
+    starts_four(&rt, DIFFERENT, [0xD2, 0x78, 0x96, 0xB4], seconds_and_firsts)
+}
+
+// Each of tables 4 to 7 with times out of range.
+#[test]
+fn out_of_range(rt: HostRuntime) -> Result<(), Fail> {
+    let firsts = [ONE, HIGHEST, ONE, HIGHEST];
+    let seconds = [HIGHEST, ONE, HIGHEST, HIGHEST];
+    starts_four(&rt, OUT_OF_RANGE, [0x78; 4], firsts)?;
+    starts_four(&rt, OUT_OF_RANGE, [0x96; 4], seconds)?;
+    starts_four(&rt, OUT_OF_RANGE, [0xB4; 4], firsts)?;
+    starts_four(&rt, OUT_OF_RANGE, [0xD2; 4], seconds)
+}
+
+// Timer 1 of channel 1 is 2 seconds: they are over with the second one, without a lamp frame. A time of 0, which works as 1, is
+// over with the first.
+#[test]
+fn timer_ends(rt: HostRuntime) -> Result<(), Fail> {
+    let pair = link(0x00, 0x78, 0x20, 0x01);
+    let written = linked(0x00, 0x78, 0x20, 0x01);
     timer_case(
         &rt,
         DIFFERENT,
+        &[pair, PRESS, Second, ask(0x01), Second, Second],
         &[
-            link(0x00, 0x78, 0x20, 0x01),
-            link(0x01, 0x96, 0x20, 0x03),
-            link(0x02, 0xB4, 0x20, 0x05),
-            link(0x03, 0xD2, 0x20, 0x09),
-            PRESS,
-        ],
-        &[
-            linked(0x00, 0x78, 0x20, 0x01),
-            linked(0x01, 0x96, 0x20, 0x03),
-            linked(0x02, 0xB4, 0x20, 0x05),
-            linked(0x03, 0xD2, 0x20, 0x09),
+            written,
             PRESSED,
-            [3, 0x10, 0, 8, 0xFB, 0x01, 0, 3, 0, 0, 0, 2],
-            [3, 0x10, 0, 8, 0xFB, 0x02, 0, 3, 0, 0x07, 0x08, 0x09],
-            [3, 0x10, 0, 8, 0xFB, 0x04, 0, 3, 0, 0x0A, 0x0B, 0x0C],
-            [3, 0x10, 0, 8, 0xFB, 0x08, 0, 3, 0, 0x10, 0x11, 0x12],
-            [0, 0x10, 0, 4, 0x00, 0x0F, 0, 0, 0, 0, 0, 0],
-            [3, 0x20, 0, 2, 0xF6, 0x01, 0, 0, 0, 0, 0, 0],
-            [3, 0x20, 0, 2, 0xF6, 0x03, 0, 0, 0, 0, 0, 0],
-            [3, 0x20, 0, 2, 0xF6, 0x05, 0, 0, 0, 0, 0, 0],
-            [3, 0x20, 0, 2, 0xF6, 0x09, 0, 0, 0, 0, 0, 0],
+            status(0x01, 3, [0, 0, 2]),
+            switched(0x01, 0),
+            lamps(0xF6, 0x01),
+            status(0x01, 3, ONE),
+            status(0x01, 0, NONE),
+            switched(0, 0x01),
         ],
-    )
-}
-
-#[test]
-fn tables_5_6_7_4(rt: HostRuntime) -> Result<(), Fail> {
-    timer_case(
-        &rt,
-        DIFFERENT,
-        &[
-            link(0x00, 0x96, 0x20, 0x01),
-            link(0x01, 0xB4, 0x20, 0x03),
-            link(0x02, 0xD2, 0x20, 0x05),
-            link(0x03, 0x78, 0x20, 0x09),
-            PRESS,
-        ],
-        &[
-            linked(0x00, 0x96, 0x20, 0x01),
-            linked(0x01, 0xB4, 0x20, 0x03),
-            linked(0x02, 0xD2, 0x20, 0x05),
-            linked(0x03, 0x78, 0x20, 0x09),
-            PRESSED,
-            [3, 0x10, 0, 8, 0xFB, 0x01, 0, 3, 0, 0x01, 0x02, 0x03],
-            [3, 0x10, 0, 8, 0xFB, 0x02, 0, 3, 0, 0x04, 0x05, 0x06],
-            [3, 0x10, 0, 8, 0xFB, 0x04, 0, 3, 0, 0, 0, 3],
-            [3, 0x10, 0, 8, 0xFB, 0x08, 0, 3, 0, 0x0D, 0x0E, 0x0F],
-            [0, 0x10, 0, 4, 0x00, 0x0F, 0, 0, 0, 0, 0, 0],
-            [3, 0x20, 0, 2, 0xF6, 0x01, 0, 0, 0, 0, 0, 0],
-            [3, 0x20, 0, 2, 0xF6, 0x03, 0, 0, 0, 0, 0, 0],
-            [3, 0x20, 0, 2, 0xF6, 0x05, 0, 0, 0, 0, 0, 0],
-            [3, 0x20, 0, 2, 0xF6, 0x09, 0, 0, 0, 0, 0, 0],
-        ],
-    )
-}
-
-#[test]
-fn tables_6_7_4_5(rt: HostRuntime) -> Result<(), Fail> {
-    timer_case(
-        &rt,
-        DIFFERENT,
-        &[
-            link(0x00, 0xB4, 0x20, 0x01),
-            link(0x01, 0xD2, 0x20, 0x03),
-            link(0x02, 0x78, 0x20, 0x05),
-            link(0x03, 0x96, 0x20, 0x09),
-            PRESS,
-        ],
-        &[
-            linked(0x00, 0xB4, 0x20, 0x01),
-            linked(0x01, 0xD2, 0x20, 0x03),
-            linked(0x02, 0x78, 0x20, 0x05),
-            linked(0x03, 0x96, 0x20, 0x09),
-            PRESSED,
-            [3, 0x10, 0, 8, 0xFB, 0x01, 0, 3, 0, 0, 0, 2],
-            [3, 0x10, 0, 8, 0xFB, 0x02, 0, 3, 0, 0x07, 0x08, 0x09],
-            [3, 0x10, 0, 8, 0xFB, 0x04, 0, 3, 0, 0x0A, 0x0B, 0x0C],
-            [3, 0x10, 0, 8, 0xFB, 0x08, 0, 3, 0, 0x10, 0x11, 0x12],
-            [0, 0x10, 0, 4, 0x00, 0x0F, 0, 0, 0, 0, 0, 0],
-            [3, 0x20, 0, 2, 0xF6, 0x01, 0, 0, 0, 0, 0, 0],
-            [3, 0x20, 0, 2, 0xF6, 0x03, 0, 0, 0, 0, 0, 0],
-            [3, 0x20, 0, 2, 0xF6, 0x05, 0, 0, 0, 0, 0, 0],
-            [3, 0x20, 0, 2, 0xF6, 0x09, 0, 0, 0, 0, 0, 0],
-        ],
-    )
-}
-
-#[test]
-fn tables_7_4_5_6(rt: HostRuntime) -> Result<(), Fail> {
-    timer_case(
-        &rt,
-        DIFFERENT,
-        &[
-            link(0x00, 0xD2, 0x20, 0x01),
-            link(0x01, 0x78, 0x20, 0x03),
-            link(0x02, 0x96, 0x20, 0x05),
-            link(0x03, 0xB4, 0x20, 0x09),
-            PRESS,
-        ],
-        &[
-            linked(0x00, 0xD2, 0x20, 0x01),
-            linked(0x01, 0x78, 0x20, 0x03),
-            linked(0x02, 0x96, 0x20, 0x05),
-            linked(0x03, 0xB4, 0x20, 0x09),
-            PRESSED,
-            [3, 0x10, 0, 8, 0xFB, 0x01, 0, 3, 0, 0x01, 0x02, 0x03],
-            [3, 0x10, 0, 8, 0xFB, 0x02, 0, 3, 0, 0x04, 0x05, 0x06],
-            [3, 0x10, 0, 8, 0xFB, 0x04, 0, 3, 0, 0, 0, 3],
-            [3, 0x10, 0, 8, 0xFB, 0x08, 0, 3, 0, 0x0D, 0x0E, 0x0F],
-            [0, 0x10, 0, 4, 0x00, 0x0F, 0, 0, 0, 0, 0, 0],
-            [3, 0x20, 0, 2, 0xF6, 0x01, 0, 0, 0, 0, 0, 0],
-            [3, 0x20, 0, 2, 0xF6, 0x03, 0, 0, 0, 0, 0, 0],
-            [3, 0x20, 0, 2, 0xF6, 0x05, 0, 0, 0, 0, 0, 0],
-            [3, 0x20, 0, 2, 0xF6, 0x09, 0, 0, 0, 0, 0, 0],
-        ],
-    )
-}
-
-// Table 4 with a timer 1 out of range: 0 and 1 are over with the first second, the others are not.
-#[test]
-fn toggle_timer_1_out_of_range(rt: HostRuntime) -> Result<(), Fail> {
+    )?;
     timer_case(
         &rt,
         OUT_OF_RANGE,
+        &[pair, PRESS, Second, Second],
         &[
-            link(0x00, 0x78, 0x20, 0x01),
-            link(0x01, 0x78, 0x20, 0x03),
-            link(0x02, 0x78, 0x20, 0x05),
-            link(0x03, 0x78, 0x20, 0x09),
-            PRESS,
-            Second,
-            ask(0x0F),
-        ],
-        &[
-            linked(0x00, 0x78, 0x20, 0x01),
-            linked(0x01, 0x78, 0x20, 0x03),
-            linked(0x02, 0x78, 0x20, 0x05),
-            linked(0x03, 0x78, 0x20, 0x09),
+            written,
             PRESSED,
-            [3, 0x10, 0, 8, 0xFB, 0x01, 0, 3, 0, 0, 0, 1],
-            [3, 0x10, 0, 8, 0xFB, 0x02, 0, 3, 0, 0xFF, 0xFF, 0xFE],
-            [3, 0x10, 0, 8, 0xFB, 0x04, 0, 3, 0, 0, 0, 1],
-            [3, 0x10, 0, 8, 0xFB, 0x08, 0, 3, 0, 0xFF, 0xFF, 0xFE],
-            [0, 0x10, 0, 4, 0x00, 0x0F, 0, 0, 0, 0, 0, 0],
-            [3, 0x20, 0, 2, 0xF6, 0x01, 0, 0, 0, 0, 0, 0],
-            [3, 0x20, 0, 2, 0xF6, 0x03, 0, 0, 0, 0, 0, 0],
-            [3, 0x20, 0, 2, 0xF6, 0x05, 0, 0, 0, 0, 0, 0],
-            [3, 0x20, 0, 2, 0xF6, 0x09, 0, 0, 0, 0, 0, 0],
-            [3, 0x10, 0, 8, 0xFB, 0x01, 0, 0, 0, 0, 0, 0],
-            [3, 0x10, 0, 8, 0xFB, 0x04, 0, 0, 0, 0, 0, 0],
-            [0, 0x10, 0, 4, 0x00, 0, 0x05, 0, 0, 0, 0, 0],
-            [3, 0x10, 0, 8, 0xFB, 0x01, 0, 0, 0, 0, 0, 0],
-            [3, 0x10, 0, 8, 0xFB, 0x02, 0, 3, 0, 0xFF, 0xFF, 0xFD],
-            [3, 0x10, 0, 8, 0xFB, 0x04, 0, 0, 0, 0, 0, 0],
-            [3, 0x10, 0, 8, 0xFB, 0x08, 0, 3, 0, 0xFF, 0xFF, 0xFD],
-        ],
-    )
-}
-
-// Table 5 with a timer 2 out of range: 0 is over with the first second, the others are not.
-#[test]
-fn toggle_timer_2_out_of_range(rt: HostRuntime) -> Result<(), Fail> {
-    timer_case(
-        &rt,
-        OUT_OF_RANGE,
-        &[
-            link(0x00, 0x96, 0x20, 0x01),
-            link(0x01, 0x96, 0x20, 0x03),
-            link(0x02, 0x96, 0x20, 0x05),
-            link(0x03, 0x96, 0x20, 0x09),
-            PRESS,
-            Second,
-            ask(0x0F),
-        ],
-        &[
-            linked(0x00, 0x96, 0x20, 0x01),
-            linked(0x01, 0x96, 0x20, 0x03),
-            linked(0x02, 0x96, 0x20, 0x05),
-            linked(0x03, 0x96, 0x20, 0x09),
-            PRESSED,
-            [3, 0x10, 0, 8, 0xFB, 0x01, 0, 3, 0, 0xFF, 0xFF, 0xFE],
-            [3, 0x10, 0, 8, 0xFB, 0x02, 0, 3, 0, 0, 0, 1],
-            [3, 0x10, 0, 8, 0xFB, 0x04, 0, 3, 0, 0xFF, 0xFF, 0xFE],
-            [3, 0x10, 0, 8, 0xFB, 0x08, 0, 3, 0, 0xFF, 0xFF, 0xFE],
-            [0, 0x10, 0, 4, 0x00, 0x0F, 0, 0, 0, 0, 0, 0],
-            [3, 0x20, 0, 2, 0xF6, 0x01, 0, 0, 0, 0, 0, 0],
-            [3, 0x20, 0, 2, 0xF6, 0x03, 0, 0, 0, 0, 0, 0],
-            [3, 0x20, 0, 2, 0xF6, 0x05, 0, 0, 0, 0, 0, 0],
-            [3, 0x20, 0, 2, 0xF6, 0x09, 0, 0, 0, 0, 0, 0],
-            [3, 0x10, 0, 8, 0xFB, 0x02, 0, 0, 0, 0, 0, 0],
-            [0, 0x10, 0, 4, 0x00, 0, 0x02, 0, 0, 0, 0, 0],
-            [3, 0x10, 0, 8, 0xFB, 0x01, 0, 3, 0, 0xFF, 0xFF, 0xFD],
-            [3, 0x10, 0, 8, 0xFB, 0x02, 0, 0, 0, 0, 0, 0],
-            [3, 0x10, 0, 8, 0xFB, 0x04, 0, 3, 0, 0xFF, 0xFF, 0xFD],
-            [3, 0x10, 0, 8, 0xFB, 0x08, 0, 3, 0, 0xFF, 0xFF, 0xFD],
-        ],
-    )
-}
-
-// Table 6 with a timer 1 out of range, on closed channels, and then on running ones: nothing is told but on demand.
-#[test]
-fn start_timer_1_out_of_range(rt: HostRuntime) -> Result<(), Fail> {
-    timer_case(
-        &rt,
-        OUT_OF_RANGE,
-        &[
-            link(0x00, 0xB4, 0x20, 0x01),
-            link(0x01, 0xB4, 0x20, 0x03),
-            link(0x02, 0xB4, 0x20, 0x05),
-            link(0x03, 0xB4, 0x20, 0x09),
-            close(0x0F),
-            PRESS,
-            ask(0x0F),
-            RELEASE,
-            run(0x0F),
-            PRESS,
-            ask(0x0F),
-            Second,
-        ],
-        &[
-            linked(0x00, 0xB4, 0x20, 0x01),
-            linked(0x01, 0xB4, 0x20, 0x03),
-            linked(0x02, 0xB4, 0x20, 0x05),
-            linked(0x03, 0xB4, 0x20, 0x09),
-            [3, 0x10, 0, 8, 0xFB, 0x01, 0, 1, 0, 0, 0, 0],
-            [3, 0x10, 0, 8, 0xFB, 0x02, 0, 1, 0, 0, 0, 0],
-            [3, 0x10, 0, 8, 0xFB, 0x04, 0, 1, 0, 0, 0, 0],
-            [3, 0x10, 0, 8, 0xFB, 0x08, 0, 1, 0, 0, 0, 0],
-            [0, 0x10, 0, 4, 0x00, 0x0F, 0, 0, 0, 0, 0, 0],
-            PRESSED,
-            [3, 0x10, 0, 8, 0xFB, 0x01, 0, 3, 0, 0, 0, 1],
-            [3, 0x10, 0, 8, 0xFB, 0x02, 0, 3, 0, 0xFF, 0xFF, 0xFE],
-            [3, 0x10, 0, 8, 0xFB, 0x04, 0, 3, 0, 0, 0, 1],
-            [3, 0x10, 0, 8, 0xFB, 0x08, 0, 3, 0, 0xFF, 0xFF, 0xFE],
-            RELEASED,
-            PRESSED,
-            [3, 0x10, 0, 8, 0xFB, 0x01, 0, 3, 0, 0, 0, 1],
-            [3, 0x10, 0, 8, 0xFB, 0x02, 0, 3, 0, 0xFF, 0xFF, 0xFE],
-            [3, 0x10, 0, 8, 0xFB, 0x04, 0, 3, 0, 0, 0, 1],
-            [3, 0x10, 0, 8, 0xFB, 0x08, 0, 3, 0, 0xFF, 0xFF, 0xFE],
-            [3, 0x10, 0, 8, 0xFB, 0x01, 0, 0, 0, 0, 0, 0],
-            [3, 0x10, 0, 8, 0xFB, 0x04, 0, 0, 0, 0, 0, 0],
-            [0, 0x10, 0, 4, 0x00, 0, 0x05, 0, 0, 0, 0, 0],
-        ],
-    )
-}
-
-// Table 7 with a timer 2 out of range, on open channels, and then on closed and running ones.
-#[test]
-fn start_timer_2_out_of_range(rt: HostRuntime) -> Result<(), Fail> {
-    timer_case(
-        &rt,
-        OUT_OF_RANGE,
-        &[
-            link(0x00, 0xD2, 0x20, 0x01),
-            link(0x01, 0xD2, 0x20, 0x03),
-            link(0x02, 0xD2, 0x20, 0x05),
-            link(0x03, 0xD2, 0x20, 0x09),
-            PRESS,
-            RELEASE,
-            run(0x03),
-            close(0x0C),
-            PRESS,
-            ask(0x0F),
-            Second,
-        ],
-        &[
-            linked(0x00, 0xD2, 0x20, 0x01),
-            linked(0x01, 0xD2, 0x20, 0x03),
-            linked(0x02, 0xD2, 0x20, 0x05),
-            linked(0x03, 0xD2, 0x20, 0x09),
-            PRESSED,
-            [3, 0x10, 0, 8, 0xFB, 0x01, 0, 3, 0, 0xFF, 0xFF, 0xFE],
-            [3, 0x10, 0, 8, 0xFB, 0x02, 0, 3, 0, 0, 0, 1],
-            [3, 0x10, 0, 8, 0xFB, 0x04, 0, 3, 0, 0xFF, 0xFF, 0xFE],
-            [3, 0x10, 0, 8, 0xFB, 0x08, 0, 3, 0, 0xFF, 0xFF, 0xFE],
-            [0, 0x10, 0, 4, 0x00, 0x0F, 0, 0, 0, 0, 0, 0],
-            [3, 0x20, 0, 2, 0xF6, 0x01, 0, 0, 0, 0, 0, 0],
-            [3, 0x20, 0, 2, 0xF6, 0x03, 0, 0, 0, 0, 0, 0],
-            [3, 0x20, 0, 2, 0xF6, 0x05, 0, 0, 0, 0, 0, 0],
-            [3, 0x20, 0, 2, 0xF6, 0x09, 0, 0, 0, 0, 0, 0],
-            RELEASED,
-            PRESSED,
-            [3, 0x10, 0, 8, 0xFB, 0x01, 0, 3, 0, 0xFF, 0xFF, 0xFE],
-            [3, 0x10, 0, 8, 0xFB, 0x02, 0, 3, 0, 0, 0, 1],
-            [3, 0x10, 0, 8, 0xFB, 0x04, 0, 3, 0, 0xFF, 0xFF, 0xFE],
-            [3, 0x10, 0, 8, 0xFB, 0x08, 0, 3, 0, 0xFF, 0xFF, 0xFE],
-            [3, 0x10, 0, 8, 0xFB, 0x02, 0, 0, 0, 0, 0, 0],
-            [0, 0x10, 0, 4, 0x00, 0, 0x02, 0, 0, 0, 0, 0],
+            status(0x01, 3, ONE),
+            switched(0x01, 0),
+            lamps(0xF6, 0x01),
+            status(0x01, 0, NONE),
+            switched(0, 0x01),
         ],
     )
 }
