@@ -33,16 +33,16 @@ at : (x : State) → decoded (encoded x) ≡ x → (decoded (encoded x)).clock �
 at x e = ap (λ y. y.clock) e
 
 -- what an event makes of the time
-abbrev moved : Event → Time → Time
+abbrev pub moved : Event → Time → Time
 moved (Heard f) t = clock_after t f
 moved Second t = a_second_later t
 moved (Pushed p) t = t
 
 -- a frame with another address than 0 leaves it
-foreign : (t : Time) (f : Frame) → eqb f.address 0 ≡ false → clock_after t f ≡ t
+pub foreign : (t : Time) (f : Frame) → eqb f.address 0 ≡ false → clock_after t f ≡ t
 foreign t f e = cond-false (eqb f.address 0 && is_command 0xD8 4 f) _ _ (and_left (eqb f.address 0) (is_command 0xD8 4 f) e)
 
-time_moves : (v : Variant) (s : InterfaceSetup) (own : ℕ) (r : Record) (e : Event) → time ((interface_kind v s).acts own r e).after ≡ moved e (time r)
+pub time_moves : (v : Variant) (s : InterfaceSetup) (own : ℕ) (r : Record) (e : Event) → time ((interface_kind v s).acts own r e).after ≡ moved e (time r)
 time_moves v s own r (Heard f) =
     let x = decoded r.state in
     let Is : Outcome → Type 0 = λ o. time o.after ≡ clock_after (time r) f in
@@ -151,7 +151,7 @@ one_more t h =
     by_cases true true true true p q u v = omega arith
 
 -- what does not set the clock leaves it
-unset : (t : Time) (f : Frame) → sets f ≡ false → clock_after t f ≡ t
+pub unset : (t : Time) (f : Frame) → sets f ≡ false → clock_after t f ≡ t
 unset t f e =
     cond_both (eqb f.address 0 && is_command 0xD8 4 f) (set_to (byte f 1) (byte f 2) (byte f 3) t) t (λ k. k ≡ t)
     (λ asked. cond_both (real (byte f 1) (byte f 2) (byte f 3)) _ t (λ k. k ≡ t)

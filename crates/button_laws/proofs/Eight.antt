@@ -10,7 +10,7 @@ use Rattle.interface.specs.Channels.{hold_on, on_named, held_after, all_ticked}
 use Rattle.interface.specs.Links.{matches, by_record, in_turn, by_records}
 
 -- what holds of each number from 1 to 8
-of_eight : (P : ℕ → Type 0) → P 1 → P 2 → P 3 → P 4 → P 5 → P 6 → P 7 → P 8 → (c : ℕ) → 1 ≤ c → c ≤ 8 → P c
+pub of_eight : (P : ℕ → Type 0) → P 1 → P 2 → P 3 → P 4 → P 5 → P 6 → P 7 → P 8 → (c : ℕ) → 1 ≤ c → c ≤ 8 → P c
 of_eight P a b d e f g h i zero l u = absurd (omega arith)
 of_eight P a b d e f g h i (suc zero) l u = a
 of_eight P a b d e f g h i (suc (suc zero)) l u = b

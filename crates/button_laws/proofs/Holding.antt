@@ -135,7 +135,7 @@ time_of (Some t) = t
 time_of None = 0
 
 -- no code is as long as a hold without end
-short : (code n : ℕ) → seconds_of_code code ≡ Some n → n < 0xFFFFFF
+pub short : (code n : ℕ) → seconds_of_code code ≡ Some n → n < 0xFFFFFF
 short code n e = subst (λ t. t < 0xFFFFFF) (ap time_of e) (bound (ltb code 252) refl)
   where
     none : 0 < 0xFFFFFF

@@ -1,7 +1,7 @@
 pub mod Eight
-mod Records
-mod Replies
+pub mod Records
+pub mod Replies
 pub mod Holding
 mod StatusBits
-mod Clocks
+pub mod Clocks
 mod Examples

@@ -1,9 +1,7 @@
--- What alone changes the holds and the pressed buttons of a button interface. Assumes nothing.
-use Rattle.std.proofs.Common.{◌≡◌, ℕ, zero, suc, ◌+◌, ◌-◌, ◌*◌, ◌/◌, ◌%◌, ◌^◌, ◌<◌, ◌≤◌, min, Bool, true, false, cond, ◌&&◌, ◌||◌, eqb, ltb, List, get_or, is_some, Some, None, Option, sym, refl, ap, ◌∙◌, inl, inr, arith}
-use Rattle.std.specs.Int.{bit_at}
+-- What alone changes the holds, the pressed buttons, the lamps and the clock of a button interface. Assumes nothing.
+use Rattle.std.proofs.Common.{◌≡◌, ℕ, zero, suc, ◌+◌, ◌-◌, ◌*◌, ◌<◌, ◌≤◌, Bool, true, false, cond, ◌&&◌, ◌||◌, eqb, ltb, List, get_or, is_some, Some, None, Option, sym, refl, ap, ◌∙◌, inl, inr, arith}
 use lib.Bits.{bit_and}
-use Rattle.std.proofs.lemmas.Bool.{cond-false, cond_both, ne_eqb, eqb-true, lt-ltb}
-use Rattle.std.proofs.lemmas.Nat.Bits.{bit_at_and}
+use Rattle.std.proofs.lemmas.Bool.{cases_Bool, or_parts, and_left, and_right, cond-false, cond_both, ne_eqb, eqb-true, lt-ltb}
 use Rattle.bus.specs.declared.frame.Frame.{Frame}
 use Rattle.bus.specs.Frames.{byte, is_command, seconds_in}
 use Rattle.station.specs.declared.event.Event.{Event}
@@ -11,7 +9,8 @@ use Rattle.station.specs.declared.event.Event.TheVariants.{Heard, Second, Pushed
 use Rattle.station.specs.Kinds.{Record, Outcome, from_link}
 use Rattle.module.specs.Bits.{has_bit}
 use Rattle.module.specs.Pushes.{bit}
-use Rattle.module.proofs.Bitwise.{at_place}
+use Rattle.module.specs.declared.lamps.Lamps.{Lamps}
+use Rattle.module.specs.LampBytes.{lamps_after}
 use Rattle.timing.specs.declared.locking.Locking.TheVariants.{Lock, Unlock}
 use Rattle.timing.specs.Holds.{ticked}
 use Rattle.timing.specs.TimeCodes.{hold_of_code}
@@ -21,31 +20,16 @@ use Rattle.interface.specs.Links.{link_byte, lock_for, toggle_for, asked}
 use Rattle.buttons.specs.Buttons.{variant}
 use Rattle.buttons.specs.Buttons.{design as buttons_design}
 use Rattle.kinds.specs.Kinds.{buttons_kind, EveryButtonInterface}
+use Rattle.interface.specs.States.{decoded}
+use Rattle.button_laws.specs.Clocks.{sets}
+use Rattle.button_laws.proofs.Clocks.{time_moves, unset}
+use Rattle.button_laws.specs.Interfaces.{time}
+use Rattle.button_laws.specs.Interfaces.{hold as decoded_hold}
 use Rattle.button_laws.specs.Holding.{AsksNothing, commands, record_acts}
 use Rattle.button_laws.proofs.Holding.{hold_moves}
-use Rattle.module_laws.specs.InterfaceKeeps.{names_channel, record_asks, AsksNoHold, HoldsKept, PressedKept}
-use Rattle.laws.proofs.Bits.{bit_one}
-
--- each of the eight bits counts
-full : (i : ℕ) → i < 8 → bit_at 255 i ≡ 1
-full zero h = refl
-full (suc zero) h = refl
-full (suc (suc zero)) h = refl
-full (suc (suc (suc zero))) h = refl
-full (suc (suc (suc (suc zero)))) h = refl
-full (suc (suc (suc (suc (suc zero))))) h = refl
-full (suc (suc (suc (suc (suc (suc zero)))))) h = refl
-full (suc (suc (suc (suc (suc (suc (suc zero))))))) h = refl
-full (suc (suc (suc (suc (suc (suc (suc (suc i)))))))) h = absurd (omega arith)
-
--- in a byte of channel bits
-same_bit : (n channel : ℕ) → 1 ≤ channel → channel ≤ 8 → has_bit (bit_and n 0xFF) (bit channel) ≡ names_channel n channel
-same_bit n channel low high =
-    let i : ℕ = channel - 1 in
-    let within : i < 8 = omega arith in
-    let m : ℕ = n / 2 ^ i % 2 in
-    let small : min m 1 ≡ m = omega arith in
-    at_place (bit_and n 0xFF) i (eqb m 1) (bit_at_and n 255 i ∙ (ap (min m) (full i within) ∙ (small ∙ bit_one m (omega arith))))
+use Rattle.module_laws.specs.InterfaceStates.{names_channel}
+use Rattle.module_laws.specs.InterfaceKeeps.{record_asks, AsksNoHold, HoldsKept, PressedKept, is_lamp_command, NoLampCommand, LampsKept, NoTimeSet, ClockKept}
+use Rattle.module_laws.proofs.InterfaceStates.{same_hold, same_bit}
 
 -- what is a lock or an unlock
 is_asked : (f : Frame) → is_some (commanded f) ≡ true → (is_command 0x12 5 f || is_command 0x13 2 f) ≡ true
@@ -98,11 +82,18 @@ asks_nothing s own r channel low high (Heard f) h = ((λ at. nothing_commanded f
 asks_nothing s own r channel low high Second h = tt
 asks_nothing s own r channel low high (Pushed p) h = tt
 
+-- such an event moves the decoded hold only by a second
+hold_stays : (s : InterfaceSetup) (own : ℕ) (r : Record) (channel : ℕ) → 1 ≤ channel → channel ≤ 8 → (e : Event) → AsksNoHold (buttons_kind s) own r channel e → decoded_hold ((buttons_kind s).acts own r e).after channel ≡ decoded_hold r channel
+hold_stays s own r channel low high (Heard f) h = hold_moves variant s own channel low high r (Heard f) (asks_nothing s own r channel low high (Heard f) h)
+hold_stays s own r channel low high Second h =
+    let same = same_hold r channel low high in
+    hold_moves variant s own channel low high r Second tt
+    ∙ elim h [ inl none ↦ (let z = sym same ∙ none in ap ticked z ∙ sym z) | inr ever ↦ (let z = sym same ∙ ever in ap ticked z ∙ sym z) ]
+hold_stays s own r channel low high (Pushed p) h = hold_moves variant s own channel low high r (Pushed p) tt
+
 pub holds_kept : EveryButtonInterface HoldsKept
-holds_kept s own r channel (Heard f) low high h = hold_moves variant s own channel low high r (Heard f) (asks_nothing s own r channel low high (Heard f) h)
-holds_kept s own r channel Second low high h =
-    hold_moves variant s own channel low high r Second tt ∙ elim h [ inl none ↦ ap ticked none ∙ sym none | inr ever ↦ ap ticked ever ∙ sym ever ]
-holds_kept s own r channel (Pushed p) low high h = hold_moves variant s own channel low high r (Pushed p) tt
+holds_kept s own r channel e low high h =
+    same_hold ((buttons_kind s).acts own r e).after channel low high ∙ (hold_stays s own r channel low high e h ∙ sym (same_hold r channel low high))
 
 pub pressed_kept : EveryButtonInterface PressedKept
 pressed_kept s own r (Heard f) h =
@@ -112,3 +103,60 @@ pressed_kept s own r (Heard f) h =
     cond_both (eqb f.address own) _ _ Same (λ _. refl) (λ _. cond_both (eqb f.address 0) _ _ Same (λ _. refl) (λ _. cond_both linking _ _ Same (λ _. refl) (λ _. refl)))
 pressed_kept s own r Second h = refl
 pressed_kept s own r (Pushed p) h = ap (λ (o : Outcome). get_or o.after.state 3 0) (cond-false (eqb p.address own) _ _ (ne_eqb p.address own h))
+
+-- what is no lamp command leaves the lamps
+no_lamps : (l : Lamps) (f : Frame) → is_lamp_command f ≡ false → lamps_after l f ≡ l
+no_lamps l f none =
+    let a = or_parts (is_command 0xF4 4 f) _ none in
+    let b = or_parts (is_command 0xF5 2 f) _ a.1 in
+    let c = or_parts (is_command 0xF6 2 f) _ b.1 in
+    let d = or_parts (is_command 0xF7 2 f) _ c.1 in
+    let e = or_parts (is_command 0xF8 2 f) (is_command 0xF9 2 f) d.1 in
+    cond-false (is_command 0xF4 4 f) _ _ a.0
+    ∙ (cond-false (is_command 0xF5 2 f) _ _ b.0
+    ∙ (cond-false (is_command 0xF6 2 f) _ _ c.0
+    ∙ (cond-false (is_command 0xF7 2 f) _ _ d.0 ∙ (cond-false (is_command 0xF8 2 f) _ _ e.0 ∙ cond-false (is_command 0xF9 2 f) _ _ e.1))))
+
+-- the lamps that the state bytes tell
+abbrev lamps_of : Record → Lamps
+lamps_of r = (decoded r.state).lamps
+
+lamps_stay : (s : InterfaceSetup) (own : ℕ) (r : Record) (e : Event) → NoLampCommand own e → lamps_of ((buttons_kind s).acts own r e).after ≡ lamps_of r
+lamps_stay s own r (Heard f) h =
+    let Same : Outcome → Type 0 = λ o. lamps_of o.after ≡ lamps_of r in
+    cond_both (eqb f.address own) _ _ Same (λ here. no_lamps (lamps_of r) f (h (eqb-true f.address own here)))
+    (λ _. cond_both (eqb f.address 0) _ _ Same (λ _. refl) (λ _. cond_both (from_link (buttons_kind s) own r f) _ _ Same (λ _. refl) (λ _. refl)))
+lamps_stay s own r Second h = refl
+lamps_stay s own r (Pushed p) h = cond_both (eqb p.address own) _ _ (λ (o : Outcome). lamps_of o.after ≡ lamps_of r) (λ _. refl) (λ _. refl)
+
+pub lamps_kept : EveryButtonInterface LampsKept
+lamps_kept s own r e h zero l = ap (λ x. x.on) (lamps_stay s own r e h)
+lamps_kept s own r e h (suc zero) l = ap (λ x. x.slow) (lamps_stay s own r e h)
+lamps_kept s own r e h (suc (suc zero)) l = ap (λ x. x.fast) (lamps_stay s own r e h)
+lamps_kept s own r e h (suc (suc (suc i))) l = absurd (omega arith)
+
+-- what does not set the clock leaves it
+time_stays : (s : InterfaceSetup) (own : ℕ) (r : Record) (e : Event) → NoTimeSet e → time ((buttons_kind s).acts own r e).after ≡ time r
+time_stays s own r (Heard f) h =
+    let none : sets f ≡ false =
+    elim (cases_Bool (eqb f.address 0)) [
+      | inl all ↦ and_right (eqb f.address 0) _ (and_left (is_command 0xD8 4 f) _ (h (eqb-true f.address 0 all)))
+      | inr other ↦ and_left (eqb f.address 0) _ other
+    ] in
+    time_moves variant s own r (Heard f) ∙ unset (time r) f none
+time_stays s own r Second h = absurd h
+time_stays s own r (Pushed p) h = time_moves variant s own r (Pushed p)
+
+pub clock_kept : EveryButtonInterface ClockKept
+clock_kept s own r e h i low high =
+    let q = ((buttons_kind s).acts own r e).after in
+    let same = time_stays s own r e h in
+    let place : i ≡ 28 + (i - 28) = omega arith in
+    ap (λ n. get_or q.state n 0) place ∙ (by q (i - 28) (omega arith) same ∙ ap (λ n. get_or r.state n 0) (sym place))
+  where
+    by : (q : Record) (j : ℕ) → j < 4 → time q ≡ time r → get_or q.state (28 + j) 0 ≡ get_or r.state (28 + j) 0
+    by q zero l e = ap (λ x. x.day) e
+    by q (suc zero) l e = ap (λ x. x.hour) e
+    by q (suc (suc zero)) l e = ap (λ x. x.minute) e
+    by q (suc (suc (suc zero))) l e = ap (λ x. x.second) e
+    by q (suc (suc (suc (suc j)))) l e = absurd (omega arith)

@@ -1,1 +1,6 @@
+mod InterfaceStates
 mod InterfaceKeeps
+mod InterfaceLocks
+mod InterfaceRecords
+mod InterfaceReplies
+mod InterfaceClock

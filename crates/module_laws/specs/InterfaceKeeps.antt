@@ -1,20 +1,11 @@
--- What alone changes the holds and the pressed buttons of a button interface. Assumes nothing.
-use Rattle.std.specs.Prelude.{◌≡◌, ℕ, ◌+◌, ◌-◌, ◌*◌, ◌/◌, ◌%◌, ◌^◌, ◌<◌, ◌≤◌, ◌≢◌, Bool, true, false, cond, not, ◌&&◌, ◌||◌, ◌⊎◌, List, ◌==◌, nat_lt, bit_and, slice_index}
+-- What alone changes the holds, the pressed buttons, the lamps and the clock of a button interface. Assumes nothing.
+use Rattle.std.specs.Prelude.{◌≡◌, ℕ, ◌+◌, ◌*◌, ◌<◌, ◌≤◌, ◌≢◌, Bool, true, false, cond, not, ◌&&◌, ◌||◌, ◌⊎◌, List, ◌==◌, nat_lt, bit_and, slice_index}
 use Rattle.bus.specs.declared.frame.Frame.{Frame}
 use Rattle.bus.specs.Frames.{is_command}
 use Rattle.station.specs.declared.event.Event.{Event}
 use Rattle.station.specs.declared.event.Event.TheVariants.{Heard, Second, Pushed}
 use Rattle.station.specs.Kinds.{Record, Kind, from_link}
-use Rattle.interface.specs.Channels.{hold_on}
-use Rattle.interface.specs.States.{decoded}
-
--- the hold on a channel, 1 to 8
-abbrev pub hold : Record → ℕ → ℕ
-hold r channel = hold_on (decoded r.state).holds channel
-
--- a byte has the bit of a channel
-abbrev pub names_channel : ℕ → ℕ → Bool
-names_channel n channel = n / 2 ^ (channel - 1) % 2 == 1
+use Rattle.module_laws.specs.InterfaceStates.{hold, pressed, names_channel}
 
 -- link record k, of five cells from H'0100' + 5 x k on, asks something of the channel on a button status: it bears the
 -- sender's address, has a bit in common with the buttons just pressed, locks or toggles (3, 4) with a code below 252 or
@@ -46,6 +37,33 @@ NoPush own (Heard f) = Unit
 NoPush own Second = Unit
 NoPush own (Pushed p) = p.address ≢ own
 
--- such an event leaves the byte of the pressed buttons, the fourth of the state, as it was
+-- such an event leaves the byte of the pressed buttons as it was
 abbrev pub PressedKept : Kind → Type 0
-PressedKept k = (own : ℕ) (r : Record) (e : Event) → NoPush own e → slice_index (k.acts own r e).after.state 3 ≡ slice_index r.state 3
+PressedKept k = (own : ℕ) (r : Record) (e : Event) → NoPush own e → pressed (k.acts own r e).after ≡ pressed r
+
+-- the frame is a lamp command: F4 with four bytes, or one of F5 to F9 with two
+abbrev pub is_lamp_command : Frame → Bool
+is_lamp_command f =
+    is_command 0xF4 4 f || (is_command 0xF5 2 f || (is_command 0xF6 2 f || (is_command 0xF7 2 f || (is_command 0xF8 2 f || is_command 0xF9 2 f))))
+
+-- the event is none at the own address
+abbrev pub NoLampCommand : ℕ → Event → Type 0
+NoLampCommand own (Heard f) = f.address ≡ own → is_lamp_command f ≡ false
+NoLampCommand own Second = Unit
+NoLampCommand own (Pushed p) = Unit
+
+-- such an event leaves the lamps, state bytes 0, 1 and 2, as they were
+abbrev pub LampsKept : Kind → Type 0
+LampsKept k =
+    (own : ℕ) (r : Record) (e : Event) → NoLampCommand own e → (i : ℕ) → i < 3 → slice_index (k.acts own r e).after.state i ≡ slice_index r.state i
+
+-- the event is no second, and no D8 with four bytes at address 0
+abbrev pub NoTimeSet : Event → Type 0
+NoTimeSet (Heard f) = f.address ≡ 0 → is_command 0xD8 4 f ≡ false
+NoTimeSet Second = ⊥
+NoTimeSet (Pushed p) = Unit
+
+-- such an event leaves the clock, state bytes 28 to 31, as it was
+abbrev pub ClockKept : Kind → Type 0
+ClockKept k =
+    (own : ℕ) (r : Record) (e : Event) → NoTimeSet e → (i : ℕ) → 28 ≤ i → i ≤ 31 → slice_index (k.acts own r e).after.state i ≡ slice_index r.state i

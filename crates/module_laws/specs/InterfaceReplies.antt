@@ -1,0 +1,35 @@
+-- What a button interface answers to those who ask for its status, its type and the time. Assumes nothing.
+use Rattle.std.specs.Prelude.{◌≡◌, ℕ, ◌+◌, ◌⊎◌, true, cond, [], ◌∷◌, ◌==◌}
+use Rattle.bus.specs.declared.frame.Frame.{Frame}
+use Rattle.bus.specs.Frames.{is_command, message}
+use Rattle.station.specs.declared.event.Event.TheVariants.{Heard}
+use Rattle.station.specs.Kinds.{Record, Kind}
+use Rattle.interface.specs.declared.setup.InterfaceSetup.{InterfaceSetup}
+use Rattle.kinds.specs.Kinds.{buttons_kind}
+use Rattle.module_laws.specs.InterfaceStates.{hold, pressed, day, hour, minute}
+
+-- the bits of the channels with a hold
+abbrev pub held_channels : Record → ℕ
+held_channels r =
+    cond (hold r 1 == 0) 0 1
+    + (cond (hold r 2 == 0) 0 2
+    + (cond (hold r 3 == 0) 0 4
+    + (cond (hold r 4 == 0) 0 8 + (cond (hold r 5 == 0) 0 16 + (cond (hold r 6 == 0) 0 32 + (cond (hold r 7 == 0) 0 64 + cond (hold r 8 == 0) 0 128))))))
+
+-- FA with two bytes at the own address is answered by the status, and nothing else is sent
+abbrev pub StatusTold : Kind → Type 0
+StatusTold k =
+    (own : ℕ) (r : Record) (f : Frame) → f.address ≡ own → is_command 0xFA 2 f ≡ true →
+    (k.acts own r (Heard f)).sent ≡ message 3 own (0xED ∷ pressed r ∷ 0xFF ∷ 0xFF ∷ held_channels r ∷ 0 ∷ 0 ∷ []) ∷ []
+
+-- RTR 1 without data at the own address is answered by the type and the setup, and nothing else is sent
+abbrev pub TypeTold : Type 0
+TypeTold =
+    (s : InterfaceSetup) (own : ℕ) (r : Record) (f : Frame) → f.address ≡ own → f.rtr ≡ 1 → f.count ≡ 0 →
+    ((buttons_kind s).acts own r (Heard f)).sent ≡ message 3 own (0xFF ∷ 0x16 ∷ s.serial.high ∷ s.serial.low ∷ s.map ∷ s.year ∷ s.week ∷ []) ∷ []
+
+-- D7 with one byte at the own address or at address 0 is answered by the time, and nothing else is sent
+abbrev pub TimeTold : Kind → Type 0
+TimeTold k =
+    (own : ℕ) (r : Record) (f : Frame) → (f.address ≡ own) ⊎ (f.address ≡ 0) → is_command 0xD7 1 f ≡ true →
+    (k.acts own r (Heard f)).sent ≡ message 3 own (0xD8 ∷ day r ∷ hour r ∷ minute r ∷ []) ∷ []
