@@ -1,5 +1,5 @@
 pub mod Bits
-mod Sending
+pub mod Sending
 pub mod Pairs
 mod LampFrames
 pub mod Times

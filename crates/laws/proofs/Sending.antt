@@ -28,21 +28,21 @@ use Rattle.laws.specs.Sending.{SendsOnly, WellFormed, NoWrite}
 use Rattle.module.proofs.Answered.{all_heard, all_pushed}
 
 -- P holds of each form of frame that a panel sends
-record PanelForms (P : Frame → Type 0) (own : ℕ) : Type 0 where
-  cell : (h l b : ℕ) → P (message 3 own (0xFE ∷ h ∷ l ∷ b ∷ []))
-  block : (h l a b c d : ℕ) → P (message 3 own (0xCC ∷ h ∷ l ∷ a ∷ b ∷ c ∷ d ∷ []))
-  status : (a b c d : ℕ) → P (message 3 own (0xED ∷ a ∷ b ∷ c ∷ d ∷ 0 ∷ []))
-  type : (a b c d e : ℕ) → P (message 3 own (0xFF ∷ 0x0B ∷ a ∷ b ∷ c ∷ d ∷ e ∷ 0 ∷ []))
-  button : (edge : Edge) (b : ℕ) → P (message 0 own (status_bytes edge b))
+pub record PanelForms (P : Frame → Type 0) (own : ℕ) : Type 0 where
+  pub cell : (h l b : ℕ) → P (message 3 own (0xFE ∷ h ∷ l ∷ b ∷ []))
+  pub block : (h l a b c d : ℕ) → P (message 3 own (0xCC ∷ h ∷ l ∷ a ∷ b ∷ c ∷ d ∷ []))
+  pub status : (a b c d : ℕ) → P (message 3 own (0xED ∷ a ∷ b ∷ c ∷ d ∷ 0 ∷ []))
+  pub type : (a b c d e : ℕ) → P (message 3 own (0xFF ∷ 0x0B ∷ a ∷ b ∷ c ∷ d ∷ e ∷ 0 ∷ []))
+  pub button : (edge : Edge) (b : ℕ) → P (message 0 own (status_bytes edge b))
 
 module _ (P : Frame → Type 0) where
-  all_relay : (s : RelaySetup) → ((own : ℕ) → Forms P own) → ((a : ℕ) → Lamps P a) → SendsOnly P (relay_kind s)
+  pub all_relay : (s : RelaySetup) → ((own : ℕ) → Forms P own) → ((a : ℕ) → Lamps P a) → SendsOnly P (relay_kind s)
   all_relay s t l own r (Heard f) =
       all_heard (relay_design s) own r P f (all_command P own (t own) r f) tt (λ _. all_status P s own (t own) r f (l f.address))
   all_relay s t l own r Second = all_second P own (t own) r
   all_relay s t l own r (Pushed p) = all_pushed (relay_design s) own r P p tt
 
-  all_panel_command : (s : PanelSetup) (own : ℕ) → PanelForms P own → (r : Record) (f : Frame) → AllByRecursion P ((panel_design s).command own r f).sent
+  pub all_panel_command : (s : PanelSetup) (own : ℕ) → PanelForms P own → (r : Record) (f : Frame) → AllByRecursion P ((panel_design s).command own r f).sent
   all_panel_command s own t r f =
       let l = lamps r in
       All-append P (memory_sent own r.cells f) (status_sent own l (pressed r) f ++ type_sent own s l f)
@@ -51,14 +51,14 @@ module _ (P : Frame → Type 0) where
       (all_one P (is_command 0xFA 2 f) _ (t.status (pressed r) l.on l.slow l.fast))
       (all_one P (eqb f.rtr 1 && eqb f.count 0) _ (t.type l.on l.slow l.fast s.year s.week)))
 
-  all_panel : (s : PanelSetup) → ((own : ℕ) → PanelForms P own) → SendsOnly P (panel_kind s)
+  pub all_panel : (s : PanelSetup) → ((own : ℕ) → PanelForms P own) → SendsOnly P (panel_kind s)
   all_panel s t own r (Heard f) = all_heard (panel_design s) own r P f (all_panel_command s own (t own) r f) tt (λ _. tt)
   all_panel s t own r Second = tt
   all_panel s t own r (Pushed p) =
       all_pushed (panel_design s) own r P p
       (all_one P (accepted 8 (pressed r) p.channel p.edge) _ ((t own).button p.edge (bit p.channel)))
 
-  all_buttons : (s : InterfaceSetup) → ((own : ℕ) → InterfaceForms P own) → ((own a b c : ℕ) → P (message 3 own (0xD8 ∷ a ∷ b ∷ c ∷ []))) → SendsOnly P (buttons_kind s)
+  pub all_buttons : (s : InterfaceSetup) → ((own : ℕ) → InterfaceForms P own) → ((own a b c : ℕ) → P (message 3 own (0xD8 ∷ a ∷ b ∷ c ∷ []))) → SendsOnly P (buttons_kind s)
   all_buttons s t clock own r (Heard f) =
       let x = decoded r.state in
       let time = clock own x.clock.day x.clock.hour x.clock.minute in

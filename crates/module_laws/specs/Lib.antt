@@ -1,6 +1,6 @@
 pub mod InterfaceStates
 pub mod InterfaceKeeps
-pub mod InterfaceLocks
-pub mod InterfaceRecords
-pub mod InterfaceReplies
-pub mod InterfaceClock
+pub mod Frames
+pub mod AllListed
+pub mod Panel
+pub mod AllSent
