@@ -1,5 +1,9 @@
 mod InterfaceStates
 mod InterfaceKeeps
+mod InterfaceLocks
+mod InterfaceRecords
+mod InterfaceReplies
+mod InterfaceClock
 mod Frames
 mod Panel
 mod AllSent

@@ -1,5 +1,9 @@
 pub mod InterfaceStates
 pub mod InterfaceKeeps
+pub mod InterfaceLocks
+pub mod InterfaceRecords
+pub mod InterfaceReplies
+pub mod InterfaceClock
 pub mod Frames
 pub mod AllListed
 pub mod Panel

@@ -2,8 +2,90 @@
 // stands in the contract of a function, so the crate is proved only if the law is.
 #![tactic(auto)]
 
+ghost use Rattle.module_laws.specs.InterfaceClock.{ClockSet, ClockMoves};
+ghost use Rattle.module_laws.specs.InterfaceKeeps.{HoldsKept, PressedKept, LampsKept, ClockKept};
+ghost use Rattle.module_laws.specs.InterfaceLocks.{LocksObeyed, SecondsCount};
+ghost use Rattle.module_laws.specs.InterfaceRecords.{RecordsObeyed, RecordsLink};
+ghost use Rattle.module_laws.specs.InterfaceReplies.{StatusTold, TypeTold, TimeTold};
 ghost use Rattle.kinds.specs.Kinds.{panel_kind, EveryPanel, EveryButtonInterface, EveryModule};
 ghost use Rattle.module_laws.specs.AllSent.{SendsHeaded, SendsAsItself, AllButRelays, Sizes};
 ghost use Rattle.module_laws.specs.Frames.{CommandsAre, StatusesAre, TypeRequestsAre, LinksAre, LinkStatusesAre, Hearing, MessagesAre, CellsAreNamed, BytesArePut};
 ghost use Rattle.module_laws.specs.Panel.{PanelKeeps, PanelReplies, LinksNobody};
 ghost use Rattle.panel.specs.declared.panel.PanelSetup.{PanelSetup};
+
+// What alone changes the holds, the pressed buttons, the lamps and the clock of a button interface.
+pub fn interface_keeping_laws() -> u8
+    ensures holds { EveryButtonInterface HoldsKept }
+    ensures pressed { EveryButtonInterface PressedKept }
+    ensures lamps { EveryButtonInterface LampsKept }
+    ensures clock { EveryButtonInterface ClockKept }
+{
+    0
+}
+
+// What commands and seconds make of the holds of a button interface.
+pub fn interface_lock_laws() -> u8
+    ensures lock_commands { EveryButtonInterface LocksObeyed }
+    ensures seconds { EveryButtonInterface SecondsCount }
+{
+    0
+}
+
+// What the link records of a button interface make of its holds, and whom they link.
+pub fn interface_record_laws() -> u8
+    ensures record_actions { EveryButtonInterface RecordsObeyed }
+    ensures links { EveryButtonInterface RecordsLink }
+{
+    0
+}
+
+// What a button interface answers to those who ask for its status, its type and the time.
+pub fn interface_reply_laws() -> u8
+    ensures status { EveryButtonInterface StatusTold }
+    ensures type_request { TypeTold }
+    ensures time { EveryButtonInterface TimeTold }
+{
+    0
+}
+
+// How the clock of a button interface moves, and what sets it.
+pub fn interface_clock_laws() -> u8
+    ensures set { EveryButtonInterface ClockSet }
+    ensures moves { EveryButtonInterface ClockMoves }
+{
+    0
+}
+
+// What the laws rest on: which frames are commands, button statuses and type requests, who can be linked and whom a seat
+// hears, what a message carries, and how bytes are put into cells.
+pub fn frame_laws() -> u8
+    ensures commands { CommandsAre }
+    ensures statuses { StatusesAre }
+    ensures type_requests { TypeRequestsAre }
+    ensures links { LinksAre }
+    ensures link_statuses { LinkStatusesAre }
+    ensures hearing { Hearing }
+    ensures messages { MessagesAre }
+    ensures cells { CellsAreNamed }
+    ensures put { BytesArePut }
+{
+    0
+}
+
+// What alone changes a panel, what it answers, and that it links nobody.
+pub fn panel_laws() -> u8
+    ensures nothing_else { EveryPanel PanelKeeps }
+    ensures replies { (s : PanelSetup) → PanelReplies s (panel_kind s) }
+    ensures no_links { EveryPanel LinksNobody }
+{
+    0
+}
+
+// What holds of all modules.
+pub fn all_module_laws() -> u8
+    ensures priorities { EveryModule SendsHeaded }
+    ensures own_address { AllButRelays SendsAsItself }
+    ensures sizes { Sizes }
+{
+    0
+}
