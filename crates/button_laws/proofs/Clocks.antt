@@ -33,13 +33,13 @@ at : (x : State) → decoded (encoded x) ≡ x → (decoded (encoded x)).clock �
 at x e = ap (λ y. y.clock) e
 
 -- what an event makes of the time
-abbrev pub moved : Event → Time → Time
+abbrev moved : Event → Time → Time
 moved (Heard f) t = clock_after t f
 moved Second t = a_second_later t
 moved (Pushed p) t = t
 
 -- a frame with another address than 0 leaves it
-pub foreign : (t : Time) (f : Frame) → eqb f.address 0 ≡ false → clock_after t f ≡ t
+foreign : (t : Time) (f : Frame) → eqb f.address 0 ≡ false → clock_after t f ≡ t
 foreign t f e = cond-false (eqb f.address 0 && is_command 0xD8 4 f) _ _ (and_left (eqb f.address 0) (is_command 0xD8 4 f) e)
 
 pub time_moves : (v : Variant) (s : InterfaceSetup) (own : ℕ) (r : Record) (e : Event) → time ((interface_kind v s).acts own r e).after ≡ moved e (time r)

@@ -1,5 +1,5 @@
 pub mod Eight
-pub mod Records
+mod Records
 pub mod Replies
 pub mod Holding
 mod StatusBits

@@ -30,7 +30,7 @@ module _ (own code n : ℕ) (f : Frame) (w : is_command code n f ≡ true) where
 
 -- a type request is no command, since it has RTR 1
 module _ (f : Frame) (w : (eqb f.rtr 1 && eqb f.count 0) ≡ true) where
-  pub no_command : (code n : ℕ) → is_command code n f ≡ false
+  no_command : (code n : ℕ) → is_command code n f ≡ false
   no_command code n =
       let one_rtr : f.rtr ≡ 1 = eqb-true f.rtr 1 (and_parts (eqb f.rtr 1) (eqb f.count 0) w).0 in
       and_right (eqb (byte f 0) code) (eqb f.rtr 0 && eqb f.count n) (and_left (eqb f.rtr 0) (eqb f.count n) (ap (λ b. eqb b 0) one_rtr))

@@ -7,6 +7,6 @@ pub mod Commands
 mod Cells
 mod Blocks
 mod MemoryReads
-mod Pushing
-mod LampModes
+pub mod Pushing
+pub mod LampModes
 mod WorkedLines

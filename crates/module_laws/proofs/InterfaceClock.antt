@@ -1,11 +1,10 @@
 -- How the clock of a button interface moves, and what sets it. Assumes nothing.
-use Rattle.std.proofs.Common.{◌≡◌, ℕ, ◌+◌, ◌<◌, ◌≤◌, ◌⊎◌, Bool, true, false, cond, ◌&&◌, eqb, ltb, sym, refl, ap, ◌∙◌, inl, inr, arith}
-use Rattle.std.proofs.lemmas.Bool.{cond-true, and_from, and_left, and_right, eq-eqb, ne_eqb, lt-ltb, le-ltb}
-use Rattle.bus.specs.declared.frame.Frame.{Frame}
+use Rattle.std.proofs.Common.{◌≡◌, ℕ, ◌+◌, ◌≤◌, ◌⊎◌, Bool, true, false, cond, ◌&&◌, eqb, ltb, refl, ap, ◌∙◌, inl, inr}
+use Rattle.std.proofs.lemmas.Bool.{and_from, and_left, and_right, eq-eqb, ne_eqb, lt-ltb, le-ltb}
 use Rattle.bus.specs.Frames.{byte, is_command}
 use Rattle.station.specs.declared.event.Event.TheVariants.{Heard, Second}
 use Rattle.station.specs.Kinds.{Record}
-use Rattle.timing.specs.Times.{Time, real, a_second_later}
+use Rattle.timing.specs.Times.{Time, real}
 use Rattle.buttons.specs.Buttons.{variant}
 use Rattle.kinds.specs.Kinds.{buttons_kind, EveryButtonInterface}
 use Rattle.button_laws.specs.Clocks.{sets}

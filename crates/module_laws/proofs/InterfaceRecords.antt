@@ -1,11 +1,10 @@
 -- What the link records of a button interface make of its holds, and whom they link. Assumes nothing.
-use Rattle.std.proofs.Common.{◌≡◌, ℕ, zero, suc, ◌+◌, ◌-◌, ◌*◌, ◌<◌, ◌≤◌, ◌≢◌, Bool, true, false, cond, not, ◌&&◌, eqb, ltb, leb, List, [], is_some, Some, None, Option, sym, refl, ap, ◌∙◌, subst, inl, inr, arith}
+use Rattle.std.proofs.Common.{◌≡◌, ℕ, zero, suc, ◌+◌, ◌-◌, ◌*◌, ◌<◌, ◌≤◌, ◌≢◌, Bool, true, false, not, ◌&&◌, eqb, ltb, leb, List, is_some, Some, None, sym, refl, ap, ◌∙◌, subst, inl, inr, arith}
 use lib.Bits.{bit_and}
-use Rattle.std.proofs.lemmas.Bool.{false≢true, both_ways, not-true, cases_Bool, cases_eq, cond-true, cond-false, cond_both, and_parts, and_cases, and_from, and_left, and_right, eqb-true, eq-eqb, ne_eqb, ltb-true, lt-ltb, le-leb, lt-leb, le-ltb}
+use Rattle.std.proofs.lemmas.Bool.{false≢true, both_ways, not-true, cases_Bool, cases_eq, cases_lt, cond-true, cond-false, cond_both, and_parts, and_cases, and_from, and_left, and_right, eqb-true, eq-eqb, ne_eqb, ltb-true, lt-ltb, le-leb, lt-leb, le-ltb}
 use Rattle.bus.specs.declared.frame.Frame.{Frame}
-use Rattle.bus.specs.Frames.{byte}
 use Rattle.station.specs.declared.event.Event.TheVariants.{Heard}
-use Rattle.station.specs.Kinds.{Record, Outcome, from_link, links}
+use Rattle.station.specs.Kinds.{Outcome, links}
 use Rattle.module.specs.Bits.{has_bit}
 use Rattle.module.specs.Pushes.{bit}
 use Rattle.module.specs.Searches.{first}
@@ -13,17 +12,16 @@ use Rattle.module.proofs.Answered.{at_link}
 use Rattle.timing.specs.declared.locking.Locking.{Locking}
 use Rattle.timing.specs.declared.locking.Locking.TheVariants.{Lock, Toggle, Unlock}
 use Rattle.timing.specs.Holds.{locked, hold_for, obeyed}
-use Rattle.timing.specs.TimeCodes.{stretches, by_stretch, seconds_of_code, hold_of_code}
-use Rattle.interface.specs.declared.setup.InterfaceSetup.{InterfaceSetup}
+use Rattle.timing.specs.TimeCodes.{stretches, by_stretch, hold_of_code}
 use Rattle.interface.specs.Links.{bears, named, lock_for, toggle_for, asked, matches}
 use Rattle.buttons.specs.Buttons.{variant}
 use Rattle.buttons.specs.Buttons.{design as buttons_design}
 use Rattle.kinds.specs.Kinds.{buttons_kind, EveryButtonInterface}
-use Rattle.button_laws.specs.Holding.{record_acts, InOrder}
+use Rattle.button_laws.specs.Holding.{InOrder}
 use Rattle.button_laws.specs.Interfaces.{hold as decoded_hold}
 use Rattle.button_laws.proofs.Holding.{records_act_in_order, short}
 use Rattle.module_laws.specs.InterfaceStates.{hold, names_channel}
-use Rattle.module_laws.specs.InterfaceRecords.{record_byte, fits, Lasts, Makes, InTurn, RecordsObeyed, SomeRecordBears, RecordsLink}
+use Rattle.module_laws.specs.InterfaceRecords.{record_byte, fits, Lasts, Makes, InTurn, OneLastHold, RecordsObeyed, SomeRecordBears, RecordsLink}
 use Rattle.module_laws.proofs.InterfaceStates.{same_hold, same_bit}
 
 -- whether a number passes in a search
@@ -234,3 +232,67 @@ records_obeyed s own r f linked =
           (in_turn r.cells f c (decoded_hold r c) (decoded_hold after c) low high (records_act_in_order variant s own r f c low high linked)));
       silent = ap (λ (o : Outcome). o.sent) (at_link (buttons_design s) own r f linked);
     }
+
+lasts_once : (code x y : ℕ) → code < 252 → Lasts code x → Lasts code y → x ≡ y
+lasts_once code x y h p q =
+    elim (cases_lt code 120) [
+      | inl a ↦ p.each_second a ∙ sym (q.each_second a)
+      | inr l ↦ elim (cases_lt code 132) [
+        | inl a ↦ p.from_2_minutes l a ∙ sym (q.from_2_minutes l a)
+        | inr l ↦ elim (cases_lt code 182) [
+          | inl a ↦ p.from_5_minutes l a ∙ sym (q.from_5_minutes l a)
+          | inr l ↦ elim (cases_lt code 212) [
+            | inl a ↦ p.from_30_minutes l a ∙ sym (q.from_30_minutes l a)
+            | inr l ↦ elim (cases_lt code 228) [
+              | inl a ↦ p.from_1_hour l a ∙ sym (q.from_1_hour l a)
+              | inr l ↦ elim (cases_lt code 238) [
+                | inl a ↦ p.from_5_hours l a ∙ sym (q.from_5_hours l a)
+                | inr l ↦ p.from_10_hours l h ∙ sym (q.from_10_hours l h)
+              ]
+            ]
+          ]
+        ]
+      ]
+    ]
+
+makes_once : (action code was x y : ℕ) → Makes action code was x → Makes action code was y → x ≡ y
+makes_once action code was x y p q =
+    elim (cases_eq action 5) [
+      | inl five ↦ p.frees five ∙ sym (q.frees five)
+      | inr not_five ↦ elim (cases_eq action 3) [
+        | inl three ↦ elim (cases_lt code 252) [
+          | inl h ↦ elim (cases_eq code 0) [
+            | inl z ↦ p.locks_for_good three z ∙ sym (q.locks_for_good three z)
+            | inr n ↦ lasts_once code x y h (p.locks three (omega arith) h) (q.locks three (omega arith) h)
+          ]
+          | inr l ↦ p.locks_none three l ∙ sym (q.locks_none three l)
+        ]
+        | inr not_three ↦ elim (cases_eq action 4) [
+          | inl four ↦ elim (cases_lt code 252) [
+            | inl h ↦ elim (cases_eq was 0) [
+              | inl free ↦ elim (cases_eq code 0) [
+                | inl z ↦ p.locks_free_for_good four free z ∙ sym (q.locks_free_for_good four free z)
+                | inr n ↦ lasts_once code x y h (p.locks_free four free (omega arith) h) (q.locks_free four free (omega arith) h)
+              ]
+              | inr shut ↦ p.frees_locked four (omega arith) h ∙ sym (q.frees_locked four (omega arith) h)
+            ]
+            | inr l ↦ p.toggles_none four l ∙ sym (q.toggles_none four l)
+          ]
+          | inr not_four ↦ p.others not_three not_four not_five ∙ sym (q.others not_three not_four not_five)
+        ]
+      ]
+    ]
+
+pub one_last_hold : OneLastHold
+one_last_hold cells f channel first last other p q = sym p.ends ∙ (same 51 (omega arith) ∙ q.ends)
+  where
+    same : (k : ℕ) → k ≤ 51 → p.before k ≡ q.before k
+    same zero l = p.starts ∙ sym q.starts
+    same (suc k) l =
+        let here = same k (omega arith) in
+        elim (cases_Bool (fits cells f channel k)) [
+          | inl fit ↦
+              makes_once (record_byte cells k 2) (record_byte cells k 3) (p.before k) (p.before (suc k)) (q.before (suc k)) (p.fitting k (omega arith) fit)
+              (subst (λ w. Makes (record_byte cells k 2) (record_byte cells k 3) w (q.before (suc k))) (sym here) (q.fitting k (omega arith) fit))
+          | inr unfit ↦ p.other k (omega arith) unfit ∙ (here ∙ sym (q.other k (omega arith) unfit))
+        ]

@@ -4,6 +4,15 @@ mod InterfaceLocks
 mod InterfaceRecords
 mod InterfaceReplies
 mod InterfaceClock
+mod LampCommands
+mod ButtonEdges
+mod InterfaceTimes
+mod InterfaceCells
 mod Frames
 mod Panel
 mod AllSent
+mod StateBytes
+mod StateBytesInterface
+mod AllMemory
+mod AllUnlisted
+mod AllPushes

@@ -5,7 +5,7 @@ use Rattle.bus.specs.Frames.{is_command}
 use Rattle.station.specs.declared.event.Event.{Event}
 use Rattle.station.specs.declared.event.Event.TheVariants.{Heard, Second, Pushed}
 use Rattle.station.specs.Kinds.{Record, Kind, from_link}
-use Rattle.module_laws.specs.InterfaceStates.{hold, pressed, names_channel}
+use Rattle.module_laws.specs.InterfaceStates.{hold, pressed_bits, names_channel}
 
 -- link record k, of five cells from H'0100' + 5 x k on, asks something of the channel on a button status: it bears the
 -- sender's address, has a bit in common with the buttons just pressed, locks or toggles (3, 4) with a code below 252 or
@@ -39,7 +39,7 @@ NoPush own (Pushed p) = p.address ≢ own
 
 -- such an event leaves the byte of the pressed buttons as it was
 abbrev pub PressedKept : Kind → Type 0
-PressedKept k = (own : ℕ) (r : Record) (e : Event) → NoPush own e → pressed (k.acts own r e).after ≡ pressed r
+PressedKept k = (own : ℕ) (r : Record) (e : Event) → NoPush own e → pressed_bits (k.acts own r e).after ≡ pressed_bits r
 
 -- the frame is a lamp command: F4 with four bytes, or one of F5 to F9 with two
 abbrev pub is_lamp_command : Frame → Bool

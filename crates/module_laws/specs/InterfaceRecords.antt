@@ -38,8 +38,8 @@ pub record Makes (action code was is : ℕ) : Type 0 where
   pub frees : action ≡ 5 → is ≡ 0
   pub others : (action ≢ 3) → (action ≢ 4) → (action ≢ 5) → is ≡ was
 
--- the holds on a channel between two numbers of records: each of the 51 records finds what the one before it left, and
--- leaves it unless it fits
+-- the hold on a channel before each of the 51 records, in order, and after the last: each finds what the one before it left,
+-- and leaves it unless it fits
 pub record InTurn (cells : List ℕ) (f : Frame) (channel first last : ℕ) : Type 0 where
   pub before : ℕ → ℕ
   pub starts : before 0 ≡ first
@@ -47,13 +47,19 @@ pub record InTurn (cells : List ℕ) (f : Frame) (channel first last : ℕ) : Ty
   pub other : (k : ℕ) → k < 51 → fits cells f channel k ≡ false → before (suc k) ≡ before k
   pub ends : before 51 ≡ last
 
--- so a button status from a linked address acts on each channel, and nothing is sent
-pub record StatusObeyed (own : ℕ) (r : Record) (f : Frame) (o : Outcome) : Type 0 where
+-- only one last hold follows from the first
+abbrev pub OneLastHold : Type 0
+OneLastHold =
+    (cells : List ℕ) (f : Frame) (channel first last other : ℕ) → InTurn cells f channel first last → InTurn cells f channel first other → last ≡ other
+
+-- what comes of a button status: the records act so on each channel, and nothing is sent
+pub record StatusObeyed (r : Record) (f : Frame) (o : Outcome) : Type 0 where
   pub holds : (channel : ℕ) → 1 ≤ channel → channel ≤ 8 → InTurn r.cells f channel (hold r channel) (hold o.after channel)
   pub silent : o.sent ≡ []
 
+-- each button status from a linked address is obeyed so
 abbrev pub RecordsObeyed : Kind → Type 0
-RecordsObeyed k = (own : ℕ) (r : Record) (f : Frame) → from_link k own r f ≡ true → StatusObeyed own r f (k.acts own r (Heard f))
+RecordsObeyed k = (own : ℕ) (r : Record) (f : Frame) → from_link k own r f ≡ true → StatusObeyed r f (k.acts own r (Heard f))
 
 -- some record bears the address
 pub record SomeRecordBears (cells : List ℕ) (a : ℕ) : Type 0 where
@@ -61,7 +67,7 @@ pub record SomeRecordBears (cells : List ℕ) (a : ℕ) : Type 0 where
   pub within : number < 51
   pub bears : record_byte cells number 0 ≡ a
 
--- exactly then an interface links an address, if it is 1 to 254 and not its own
+-- exactly then an interface links an address, if that is 1 to 254 and not its own
 abbrev pub RecordsLink : Kind → Type 0
 RecordsLink k =
     (own : ℕ) (r : Record) (a : ℕ) → (links k own r a ≡ true) ↔ ((0 < a) × (a < 255) × (a ≢ own) × SomeRecordBears r.cells a)

@@ -1,12 +1,13 @@
--- What a button interface answers to those who ask for its status, its type and the time. Assumes nothing.
-use Rattle.std.specs.Prelude.{◌≡◌, ℕ, ◌+◌, ◌⊎◌, true, cond, [], ◌∷◌, ◌==◌}
+-- What a button interface answers to those who ask for its status, its type and the time, and when it sends nothing. Assumes nothing.
+use Rattle.std.specs.Prelude.{◌≡◌, ℕ, ◌+◌, ◌≢◌, ◌⊎◌, Bool, true, false, cond, ◌&&◌, ◌||◌, [], ◌∷◌, ◌==◌}
 use Rattle.bus.specs.declared.frame.Frame.{Frame}
 use Rattle.bus.specs.Frames.{is_command, message}
-use Rattle.station.specs.declared.event.Event.TheVariants.{Heard}
+use Rattle.station.specs.declared.event.Event.{Event}
+use Rattle.station.specs.declared.event.Event.TheVariants.{Heard, Second, Pushed}
 use Rattle.station.specs.Kinds.{Record, Kind}
 use Rattle.interface.specs.declared.setup.InterfaceSetup.{InterfaceSetup}
 use Rattle.kinds.specs.Kinds.{buttons_kind}
-use Rattle.module_laws.specs.InterfaceStates.{hold, pressed, day, hour, minute}
+use Rattle.module_laws.specs.InterfaceStates.{hold, pressed_bits, day, hour, minute}
 
 -- the bits of the channels with a hold
 abbrev pub held_channels : Record → ℕ
@@ -20,7 +21,7 @@ held_channels r =
 abbrev pub StatusTold : Kind → Type 0
 StatusTold k =
     (own : ℕ) (r : Record) (f : Frame) → f.address ≡ own → is_command 0xFA 2 f ≡ true →
-    (k.acts own r (Heard f)).sent ≡ message 3 own (0xED ∷ pressed r ∷ 0xFF ∷ 0xFF ∷ held_channels r ∷ 0 ∷ 0 ∷ []) ∷ []
+    (k.acts own r (Heard f)).sent ≡ message 3 own (0xED ∷ pressed_bits r ∷ 0xFF ∷ 0xFF ∷ held_channels r ∷ 0 ∷ 0 ∷ []) ∷ []
 
 -- RTR 1 without data at the own address is answered by the type and the setup, and nothing else is sent
 abbrev pub TypeTold : Type 0
@@ -33,3 +34,19 @@ abbrev pub TimeTold : Kind → Type 0
 TimeTold k =
     (own : ℕ) (r : Record) (f : Frame) → (f.address ≡ own) ⊎ (f.address ≡ 0) → is_command 0xD7 1 f ≡ true →
     (k.acts own r (Heard f)).sent ≡ message 3 own (0xD8 ∷ day r ∷ hour r ∷ minute r ∷ []) ∷ []
+
+-- the frame asks for a reply at the own address: FA with two bytes, FD or C9 with three, CA with seven, D7 with one, or RTR 1
+-- without data
+abbrev pub asks_for_reply : Frame → Bool
+asks_for_reply f =
+    (f.rtr == 1 && f.count == 0) || (is_command 0xFA 2 f || (is_command 0xFD 3 f || (is_command 0xC9 3 f || (is_command 0xCA 7 f || is_command 0xD7 1 f))))
+
+-- the event is no such frame at the own address, no D7 with one byte at address 0, and no push at the own address
+abbrev pub AsksForNone : ℕ → Event → Type 0
+AsksForNone own (Heard f) = (f.address ≡ own → asks_for_reply f ≡ false) × (f.address ≡ 0 → is_command 0xD7 1 f ≡ false)
+AsksForNone own Second = Unit
+AsksForNone own (Pushed p) = p.address ≢ own
+
+-- on such an event nothing is sent
+abbrev pub SilentElse : Kind → Type 0
+SilentElse k = (own : ℕ) (r : Record) (e : Event) → AsksForNone own e → (k.acts own r e).sent ≡ []

@@ -8,19 +8,22 @@ hold r channel =
     slice_index r.state (4 + 3 * (channel - 1)) * 65536 + slice_index r.state (4 + 3 * (channel - 1) + 1) * 256 + slice_index r.state (4 + 3 * (channel - 1) + 2)
 
 -- the bits of the pressed buttons
-abbrev pub pressed : Record → ℕ
-pressed r = slice_index r.state 3
+abbrev pub pressed_bits : Record → ℕ
+pressed_bits r = slice_index r.state 3
 
--- the day, 0 to 6, the hour, the minute and the second of the clock
+-- the day of the clock, 0 to 6
 abbrev pub day : Record → ℕ
 day r = slice_index r.state 28
 
+-- its hour
 abbrev pub hour : Record → ℕ
 hour r = slice_index r.state 29
 
+-- its minute
 abbrev pub minute : Record → ℕ
 minute r = slice_index r.state 30
 
+-- its second
 abbrev pub second : Record → ℕ
 second r = slice_index r.state 31
 

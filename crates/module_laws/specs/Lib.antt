@@ -4,7 +4,15 @@ pub mod InterfaceLocks
 pub mod InterfaceRecords
 pub mod InterfaceReplies
 pub mod InterfaceClock
+pub mod LampCommands
+pub mod ButtonEdges
+pub mod InterfaceTimes
+pub mod InterfaceCells
 pub mod Frames
 pub mod AllListed
 pub mod Panel
 pub mod AllSent
+pub mod StateBytes
+pub mod AllMemory
+pub mod AllUnlisted
+pub mod AllPushes

@@ -2,15 +2,24 @@
 // stands in the contract of a function, so the crate is proved only if the law is.
 #![tactic(auto)]
 
+ghost use Rattle.kinds.specs.Kinds.{EveryButtonInterface, panel_kind, EveryRelay, EveryPanel, EveryModule};
+ghost use Rattle.laws.specs.LampModes.{EveryKindWithLamps};
+ghost use Rattle.module_laws.specs.AllMemory.{OutOfRange, MemoryObeyed, CellsKept};
+ghost use Rattle.module_laws.specs.AllPushes.{EveryPushTold};
+ghost use Rattle.module_laws.specs.AllSent.{SendsHeaded, SendsAsItself, AllButRelays, Sizes};
+ghost use Rattle.module_laws.specs.AllUnlisted.{EveryUnlistedIgnored};
+ghost use Rattle.module_laws.specs.ButtonEdges.{EveryEdgeShown};
+ghost use Rattle.module_laws.specs.Frames.{CommandsAre, StatusesAre, TypeRequestsAre, LinksAre, LinkStatusesAre, Hearing, MessagesAre, CellsAreNamed, BytesArePut, BitsAre};
+ghost use Rattle.module_laws.specs.InterfaceCells.{OtherCellsIgnored};
 ghost use Rattle.module_laws.specs.InterfaceClock.{ClockSet, ClockMoves};
 ghost use Rattle.module_laws.specs.InterfaceKeeps.{HoldsKept, PressedKept, LampsKept, ClockKept};
 ghost use Rattle.module_laws.specs.InterfaceLocks.{LocksObeyed, SecondsCount};
-ghost use Rattle.module_laws.specs.InterfaceRecords.{RecordsObeyed, RecordsLink};
-ghost use Rattle.module_laws.specs.InterfaceReplies.{StatusTold, TypeTold, TimeTold};
-ghost use Rattle.kinds.specs.Kinds.{panel_kind, EveryPanel, EveryButtonInterface, EveryModule};
-ghost use Rattle.module_laws.specs.AllSent.{SendsHeaded, SendsAsItself, AllButRelays, Sizes};
-ghost use Rattle.module_laws.specs.Frames.{CommandsAre, StatusesAre, TypeRequestsAre, LinksAre, LinkStatusesAre, Hearing, MessagesAre, CellsAreNamed, BytesArePut};
+ghost use Rattle.module_laws.specs.InterfaceRecords.{RecordsObeyed, OneLastHold, RecordsLink};
+ghost use Rattle.module_laws.specs.InterfaceReplies.{StatusTold, TypeTold, TimeTold, SilentElse};
+ghost use Rattle.module_laws.specs.InterfaceTimes.{HoldsRun};
+ghost use Rattle.module_laws.specs.LampCommands.{LampsPut};
 ghost use Rattle.module_laws.specs.Panel.{PanelKeeps, PanelReplies, LinksNobody};
+ghost use Rattle.module_laws.specs.StateBytes.{RelayBytes, PanelBytes, InterfaceBytes, EveryModuleWith, HasAlways, ChannelsAreRead, ChannelsAreWritten, InterfacesAreRead};
 ghost use Rattle.panel.specs.declared.panel.PanelSetup.{PanelSetup};
 
 // What alone changes the holds, the pressed buttons, the lamps and the clock of a button interface.
@@ -23,27 +32,31 @@ pub fn interface_keeping_laws() -> u8
     0
 }
 
-// What commands and seconds make of the holds of a button interface.
+// What commands and seconds make of the holds of a button interface, and how long they last.
 pub fn interface_lock_laws() -> u8
     ensures lock_commands { EveryButtonInterface LocksObeyed }
     ensures seconds { EveryButtonInterface SecondsCount }
+    ensures times { EveryButtonInterface HoldsRun }
 {
     0
 }
 
-// What the link records of a button interface make of its holds, and whom they link.
+// What the link records of a button interface make of its holds, whom they link, and that other cells say nothing.
 pub fn interface_record_laws() -> u8
     ensures record_actions { EveryButtonInterface RecordsObeyed }
+    ensures one_last_hold { OneLastHold }
     ensures links { EveryButtonInterface RecordsLink }
+    ensures other_cells { EveryButtonInterface OtherCellsIgnored }
 {
     0
 }
 
-// What a button interface answers to those who ask for its status, its type and the time.
+// What a button interface answers to those who ask for its status, its type and the time, and when it sends nothing.
 pub fn interface_reply_laws() -> u8
     ensures status { EveryButtonInterface StatusTold }
     ensures type_request { TypeTold }
     ensures time { EveryButtonInterface TimeTold }
+    ensures silent_else { EveryButtonInterface SilentElse }
 {
     0
 }
@@ -56,8 +69,22 @@ pub fn interface_clock_laws() -> u8
     0
 }
 
+// What the lamp commands make of each lamp of a panel and of a button interface.
+pub fn lamp_command_laws() -> u8
+    ensures lamps { EveryKindWithLamps LampsPut }
+{
+    0
+}
+
+// What a push at a button of a panel or of a button interface does.
+pub fn push_edge_laws() -> u8
+    ensures edges { EveryEdgeShown }
+{
+    0
+}
+
 // What the laws rest on: which frames are commands, button statuses and type requests, who can be linked and whom a seat
-// hears, what a message carries, and how bytes are put into cells.
+// hears, what a message carries, how bytes are put into cells, and what a bit is.
 pub fn frame_laws() -> u8
     ensures commands { CommandsAre }
     ensures statuses { StatusesAre }
@@ -68,6 +95,7 @@ pub fn frame_laws() -> u8
     ensures messages { MessagesAre }
     ensures cells { CellsAreNamed }
     ensures put { BytesArePut }
+    ensures bits { BitsAre }
 {
     0
 }
@@ -86,6 +114,23 @@ pub fn all_module_laws() -> u8
     ensures priorities { EveryModule SendsHeaded }
     ensures own_address { AllButRelays SendsAsItself }
     ensures sizes { Sizes }
+    ensures out_of_range { EveryModuleWith OutOfRange }
+    ensures memory { EveryModuleWith MemoryObeyed }
+    ensures cells_kept { EveryModule CellsKept }
+    ensures unlisted { EveryUnlistedIgnored }
+    ensures pushes { EveryPushTold }
+{
+    0
+}
+
+// Which state bytes modules have, and how they are read.
+pub fn state_byte_laws() -> u8
+    ensures relay { EveryRelay (HasAlways RelayBytes 16) }
+    ensures panel { EveryPanel (HasAlways PanelBytes 4) }
+    ensures buttons { EveryButtonInterface (HasAlways InterfaceBytes 32) }
+    ensures channels_read { ChannelsAreRead }
+    ensures channels_written { EveryRelay ChannelsAreWritten }
+    ensures interface_read { InterfacesAreRead }
 {
     0
 }
