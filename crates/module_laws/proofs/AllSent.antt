@@ -5,7 +5,7 @@ use Rattle.bus.specs.Frames.{message}
 use Rattle.station.specs.declared.edge.Edge.{Edge}
 use Rattle.station.specs.declared.edge.Edge.TheVariants.{Press, Release, LongPress}
 use Rattle.station.specs.declared.event.Event.TheVariants.{Heard, Second, Pushed}
-use Rattle.module.specs.Pushes.{bit, accepted, status_bytes}
+use Rattle.module.specs.Pushes.{accepted, status_bytes}
 use Rattle.module.proofs.Answered.{all_heard, all_pushed}
 use Rattle.module.proofs.Sent.{all_one}
 use Rattle.interface.specs.States.{decoded}

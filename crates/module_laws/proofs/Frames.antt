@@ -1,12 +1,12 @@
 -- What a command, a button status and a linked address are, and what a frame carries, in numbers. Assumes nothing.
-use Rattle.std.proofs.Common.{◌≡◌, ℕ, ◌+◌, ◌-◌, ◌*◌, ◌<◌, ◌≤◌, min, Bool, true, false, not, ◌&&◌, ◌||◌, ◌⊎◌, eqb, ltb, List, ◌++◌, length, take, replicate, get_or, refl, sym, ap, ◌∙◌, inl, inr, arith, length-append}
+use Rattle.std.proofs.Common.{◌≡◌, ℕ, ◌-◌, ◌<◌, ◌≤◌, Bool, true, not, ◌&&◌, ◌||◌, ◌⊎◌, eqb, ltb, List, ◌++◌, length, take, replicate, get_or, refl, sym, ap, ◌∙◌, inl, inr, arith, length-append}
 use Rattle.std.proofs.lemmas.Bool.{and_parts, and_from, or_left, or_right, cases_Bool, eqb-true, eqb-false, eq-eqb, ne_eqb, ltb-true, ltb-false, lt-ltb, not-true, not_from_false}
 use Rattle.std.proofs.lemmas.List.{get_or_append_left, get_or-append_right, get_or-replicate, get_or-take, get_or_past, length-take-le, length-replicate}
-use Rattle.bus.specs.declared.frame.Frame.{Frame}
 use Rattle.bus.specs.Frames.{byte, is_command, message}
-use Rattle.station.specs.Kinds.{Record, Kind, links, is_status, from_link}
+use Rattle.station.specs.Kinds.{links, is_status, from_link}
 use Rattle.station.proofs.Puts.{length-put, put_inside, put_outside}
-use Rattle.module_laws.specs.Frames.{CommandsAre, StatusesAre, TypeRequestsAre, Linkable, LinksAre, StatusOfLink, LinkStatusesAre, Hearing, Carries, MessagesAre, CellsAreNamed, PutIn, BytesArePut}
+use Rattle.laws.proofs.Bits.{bit_named}
+use Rattle.module_laws.specs.Frames.{CommandsAre, StatusesAre, TypeRequestsAre, Linkable, LinksAre, StatusOfLink, LinkStatusesAre, Hearing, Carries, MessagesAre, CellsAreNamed, BytesArePut, BitsAre}
 
 pub commands_are : CommandsAre
 commands_are code count f = (apart, together)
@@ -116,3 +116,6 @@ cells_are_named f = omega arith
 pub bytes_are_put : BytesArePut
 bytes_are_put cells at bs =
     record { inside = λ i h fits. put_inside bs cells at i h fits; outside = λ n out. put_outside bs cells at n out; size = length-put cells at bs }
+
+pub bits_are : BitsAre
+bits_are = record { place = bit_named; channel = λ c. refl }

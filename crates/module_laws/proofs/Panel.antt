@@ -1,11 +1,11 @@
 -- What alone changes a panel, what it answers, and that it links nobody. Assumes nothing.
-use Rattle.std.proofs.Common.{◌≡◌, ℕ, zero, suc, ◌<◌, Bool, true, false, not, ◌&&◌, ◌||◌, eqb, ltb, List, [], ◌∷◌, ◌++◌, get_or, refl, ap, ◌∙◌, arith}
+use Rattle.std.proofs.Common.{◌≡◌, ℕ, zero, suc, ◌<◌, true, false, not, ◌&&◌, ◌||◌, eqb, ltb, List, [], ◌∷◌, ◌++◌, get_or, refl, ap, ◌∙◌, arith}
 use Rattle.std.proofs.lemmas.Bool.{cond-true, cond-false, cond_both, and_parts, and_from, and_left, and_right, or_parts, or_from, eqb-true, eq-eqb, ne_eqb}
 use Rattle.bus.specs.declared.frame.Frame.{Frame}
-use Rattle.bus.specs.Frames.{byte, is_command, is_type_request, message}
+use Rattle.bus.specs.Frames.{byte, is_command, message}
 use Rattle.bus.proofs.Commands.{other_command}
 use Rattle.station.specs.declared.event.Event.TheVariants.{Heard, Second, Pushed}
-use Rattle.station.specs.Kinds.{Record, Outcome}
+use Rattle.station.specs.Kinds.{Outcome}
 use Rattle.module.specs.declared.lamps.Lamps.{Lamps}
 use Rattle.module.specs.Designs.{idle}
 use Rattle.module.specs.LampBytes.{lamps_after}
@@ -15,9 +15,9 @@ use Rattle.panel.specs.declared.panel.PanelSetup.{PanelSetup}
 use Rattle.panel.specs.Panels.{lamps, pressed, status_sent, type_sent}
 use Rattle.panel.specs.Panels.{design as panel_design}
 use Rattle.kinds.specs.Kinds.{panel_kind, EveryPanel}
-use Rattle.module_laws.specs.AllListed.{is_one_of}
+use Rattle.module_laws.specs.AllListed.{is_one_of, lamp_commands}
 use Rattle.module_laws.specs.InterfaceKeeps.{PressedKept}
-use Rattle.module_laws.specs.Panel.{lamp_commands, LampsKept, PanelKeeps, PanelReplies, LinksNobody}
+use Rattle.module_laws.specs.Panel.{LampsKept, PanelKeeps, PanelReplies, LinksNobody}
 
 -- what no lamp command leaves
 pub lamps_same : (l : Lamps) (f : Frame) → is_one_of lamp_commands f ≡ false → lamps_after l f ≡ l

@@ -1,9 +1,11 @@
 -- What a command, a button status and a linked address are, and what a frame carries, in numbers. Assumes nothing.
-use Rattle.std.specs.Prelude.{◌≡◌, ℕ, ◌+◌, ◌*◌, ◌<◌, ◌≤◌, ◌≢◌, ◌⊎◌, ◌↔◌, true, List, length, slice_index}
+use Rattle.std.specs.Prelude.{◌≡◌, ℕ, ◌+◌, ◌-◌, ◌*◌, ◌/◌, ◌%◌, ◌^◌, ◌<◌, ◌≤◌, ◌≢◌, ◌⊎◌, ◌↔◌, ◌==◌, true, List, length, slice_index}
 use Rattle.bus.specs.declared.frame.Frame.{Frame}
 use Rattle.bus.specs.Frames.{is_command, is_type_request, message}
 use Rattle.station.specs.Kinds.{Record, Kind, links, is_status, from_link, hears}
 use Rattle.station.specs.Rules.{cell, put}
+use Rattle.module.specs.Bits.{has_bit}
+use Rattle.module.specs.Pushes.{bit}
 
 -- a frame is a command if and only if it begins with its code, has RTR 0 and exactly so many bytes
 abbrev pub CommandsAre : Type 0
@@ -70,3 +72,8 @@ pub record PutIn (cells : List ℕ) (at : ℕ) (bs : List ℕ) : Type 0 where
 
 abbrev pub BytesArePut : Type 0
 BytesArePut = (cells : List ℕ) (at : ℕ) (bs : List ℕ) → PutIn cells at bs
+
+-- a byte has a bit if, halved as often as the bit's place says, it is odd; the bit of a channel is the lowest for channel 1
+pub record BitsAre : Type 0 where
+  pub place : (n i : ℕ) → has_bit n (2 ^ i) ≡ (n / 2 ^ i % 2 == 1)
+  pub channel : (c : ℕ) → bit c ≡ 2 ^ (c - 1)

@@ -1,19 +1,15 @@
 -- What alone changes a panel, what it answers, and that it links nobody. Assumes nothing.
-use Rattle.std.specs.Prelude.{◌≡◌, ℕ, ◌<◌, Bool, true, false, List, [], ◌∷◌, slice_index}
+use Rattle.std.specs.Prelude.{◌≡◌, ℕ, ◌<◌, true, false, [], ◌∷◌, slice_index}
 use Rattle.bus.specs.declared.frame.Frame.{Frame}
 use Rattle.bus.specs.Frames.{is_command, message}
 use Rattle.station.specs.declared.event.Event.{Event}
 use Rattle.station.specs.declared.event.Event.TheVariants.{Heard, Second, Pushed}
 use Rattle.station.specs.Kinds.{Record, Kind, links}
 use Rattle.panel.specs.declared.panel.PanelSetup.{PanelSetup}
-use Rattle.module_laws.specs.AllListed.{is_one_of}
+use Rattle.module_laws.specs.AllListed.{is_one_of, lamp_commands}
 use Rattle.module_laws.specs.InterfaceKeeps.{PressedKept}
 
--- the commands for lamps: F4 with four bytes, F5 to F9 with two
-abbrev pub lamp_commands : List (Frame → Bool)
-lamp_commands = is_command 0xF4 4 ∷ is_command 0xF5 2 ∷ is_command 0xF6 2 ∷ is_command 0xF7 2 ∷ is_command 0xF8 2 ∷ is_command 0xF9 2 ∷ []
-
--- the event is no such command at the own address
+-- the event is no command for lamps at the own address
 abbrev pub AsksNoLamp : ℕ → Event → Type 0
 AsksNoLamp own (Heard f) = f.address ≡ own → is_one_of lamp_commands f ≡ false
 AsksNoLamp own Second = Unit

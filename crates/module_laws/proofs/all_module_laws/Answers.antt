@@ -1,4 +1,7 @@
+use Rattle.module_laws.proofs.AllMemory.{nothing_out_of_range, memory_obeyed, cells_kept}
 use Rattle.module_laws.proofs.AllSent.{sends_headed, send_as_themselves, sizes}
+use Rattle.module_laws.proofs.AllPushes.{every_push_told}
+use Rattle.module_laws.proofs.AllUnlisted.{unlisted_ignored}
 use Rattle.module_laws.proofs.all_module_laws.Goals as goal
 
 pub returns : goal.returns
@@ -7,4 +10,9 @@ returns c =
       priorities = sends_headed;
       own_address = send_as_themselves;
       sizes = sizes;
+      out_of_range = nothing_out_of_range;
+      memory = memory_obeyed;
+      cells_kept = cells_kept;
+      unlisted = unlisted_ignored;
+      pushes = every_push_told;
     }
