@@ -19,26 +19,26 @@ pub(crate) type Modules = Rail<Seat<Panel>, Sieve<Seat<Relay>>>;
 pub(crate) type Buttons = Rail<Seat<Panel>, Seat<ButtonInterface>>;
 
 // Timer 1 runs for 5 seconds and timer 2 for 70,000; those of channel 4 are out of range at both ends.
-fn modules() -> Modules {
-    let timers = Timers {
-        first: 5,
-        second: 70_000,
-    };
-    let setup = RelaySetup {
-        timers: PerChannel {
-            one: timers,
-            two: timers,
-            three: timers,
-            four: Timers {
-                first: 0,
-                second: 0xFFFF_FFFF,
-            },
-        },
-    };
+const TIMERS: PerChannel<Timers> = PerChannel {
+    one: SHORT_AND_LONG,
+    two: SHORT_AND_LONG,
+    three: SHORT_AND_LONG,
+    four: Timers {
+        first: 0,
+        second: 0xFFFF_FFFF,
+    },
+};
+
+const SHORT_AND_LONG: Timers = Timers {
+    first: 5,
+    second: 70_000,
+};
+
+fn modules(timers: PerChannel<Timers>) -> Modules {
     Rail {
         first: new_panel(0x20, PanelSetup { year: 8, week: 17 }),
         second: Sieve {
-            below: new_relay(0x10, setup),
+            below: new_relay(0x10, RelaySetup { timers }),
         },
     }
 }
@@ -68,11 +68,13 @@ fn house_over<S: Station + Drop>(heap: Global, station: S) -> Result<House<S>, F
     House::new(heap, station).map_err(|_| Fail::new("no memory"))
 }
 
-// Something that is done: a frame is put, or a button pushed (address, channel and edge, as the house takes them).
+// Something that is done: a frame is put, a button pushed (address, channel and edge, as the house takes them), or a second
+// passes.
 #[derive(Clone, Copy)]
 pub(crate) enum Input {
     Put([u8; 12]),
     Push(u8, u8, u8),
+    Second,
 }
 
 // Does each input on a new house with the panel and the relay; the frames sent must be these, in order.
@@ -81,7 +83,17 @@ pub(crate) fn case(
     inputs: &[Input],
     expected: &[[u8; 12]],
 ) -> Result<(), Fail> {
-    check_case(rt, modules(), inputs, expected)
+    timer_case(rt, TIMERS, inputs, expected)
+}
+
+// The same where the relay has other timers.
+pub(crate) fn timer_case(
+    rt: &(impl Abort + AllocGlobal),
+    timers: PerChannel<Timers>,
+    inputs: &[Input],
+    expected: &[[u8; 12]],
+) -> Result<(), Fail> {
+    check_case(rt, modules(timers), inputs, expected)
 }
 
 // The same with the panel and the button interface.
@@ -119,6 +131,10 @@ fn act<S: Station>(house: &mut House<S>, input: Input, sent: &mut Vec<Frame>) ->
         Input::Put(body) => served(house.put(Frame::from(body))),
         Input::Push(address, channel, edge) => {
             let (count, _) = served(house.push(address, channel, edge, &mut buffer))?;
+            keep(&buffer, count, sent)
+        }
+        Input::Second => {
+            let (count, _) = served(house.second(&mut buffer))?;
             keep(&buffer, count, sent)
         }
     }

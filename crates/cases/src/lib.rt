@@ -14,3 +14,5 @@ mod panel_cases;
 mod relay_cases;
 #[cfg(test)]
 mod text_cases;
+#[cfg(test)]
+mod timer_cases;

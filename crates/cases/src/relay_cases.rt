@@ -4,19 +4,19 @@ use crate::fixture::{Input, case};
 use std::test::*;
 
 // Writes one pair, and an unused one after it.
-fn link(high: u8, low: u8, address: u8, bits: u8) -> Input {
+pub(crate) fn link(high: u8, low: u8, address: u8, bits: u8) -> Input {
     Put([3, 0x10, 0, 7, 0xCA, high, low, address, bits, 0xFF, 0xFF, 0])
 }
 
 // What the relay answers to it.
-fn linked(high: u8, low: u8, address: u8, bits: u8) -> [u8; 12] {
+pub(crate) fn linked(high: u8, low: u8, address: u8, bits: u8) -> [u8; 12] {
     [3, 0x10, 0, 7, 0xCC, high, low, address, bits, 0xFF, 0xFF, 0]
 }
 
 // The press of button 1 on the panel.
-const PRESSED: [u8; 12] = [0, 0x20, 0, 4, 0x00, 0x01, 0, 0, 0, 0, 0, 0];
+pub(crate) const PRESSED: [u8; 12] = [0, 0x20, 0, 4, 0x00, 0x01, 0, 0, 0, 0, 0, 0];
 
-const RELEASED: [u8; 12] = [0, 0x20, 0, 4, 0x00, 0, 0x01, 0, 0, 0, 0, 0];
+pub(crate) const RELEASED: [u8; 12] = [0, 0x20, 0, 4, 0x00, 0, 0x01, 0, 0, 0, 0, 0];
 
 // The last pair of the last table of channel 4 starts timer 2, which takes the highest time.
 #[test]
