@@ -30,7 +30,7 @@ use Rattle.laws.proofs.Cells.{four as four_cells, four-put}
 use Rattle.laws.proofs.Commands.{MemoryOnly, ByMemory, memory_only, relay_by_memory, panel_by_memory, buttons_by_memory}
 use Rattle.kinds.specs.Kinds.{EveryModule}
 use Rattle.module_laws.specs.AllListed.{is_one_of, lamp_commands}
-use Rattle.module_laws.specs.AllMemory.{NothingComes, OutOfRange, BytesWritten, IsAnswered, reply, MemoryObeyed, CellsKept}
+use Rattle.module_laws.specs.AllMemory.{NothingComes, OutOfRange, BytesWritten, IsAnswered, reply, MemoryObeyed, CellsKept, CellCountKept}
 use Rattle.module_laws.specs.StateBytes.{RelayBytes, PanelBytes, InterfaceBytes, EveryModuleWith}
 use Rattle.module_laws.proofs.LampCommands.{lamps_same}
 use Rattle.module_laws.proofs.Panel.{no_memory}
@@ -232,6 +232,19 @@ module _ (Such : List ℕ → Type 0) (d : Design) (plain : Plain Such d) where
   keeps own r (Pushed p) h =
       cond_both (eqb p.address own) (d.push own r p.channel p.edge) (idle r) (λ o. o.after.cells ≡ r.cells) (λ _. plain.push own r p.channel p.edge) (λ _. refl)
 
+  count_keeps : CellCountKept (designed d)
+  count_keeps own r (Heard f) =
+      let Same : Outcome → Type 0 = λ o. length o.after.cells ≡ length r.cells in
+      cond_both (eqb f.address own) (d.command own r f) _ Same
+      (λ _. ap length (plain.memory.stores own r f)
+      ∙ cond_both (leb (cell f + length (payload f)) (length r.cells)) (put r.cells (cell f) (payload f)) r.cells (λ t. length t ≡ length r.cells)
+      (λ _. length-put r.cells (cell f) (payload f)) (λ _. refl))
+      (λ _. cond_both (eqb f.address 0) (d.broadcast own r f) _ Same (λ _. ap length (plain.broadcast own r f))
+      (λ _. cond_both _ (d.status own r f) (idle r) Same (λ _. ap length (plain.status own r f)) (λ _. refl)))
+  count_keeps own r Second = ap length (plain.second own r)
+  count_keeps own r (Pushed p) =
+      cond_both (eqb p.address own) (d.push own r p.channel p.edge) (idle r) (λ o. length o.after.cells ≡ length r.cells) (λ _. ap length (plain.push own r p.channel p.edge)) (λ _. refl)
+
 relay_plain : (s : RelaySetup) → Plain RelayBytes (relay_design s)
 relay_plain s = record { memory = relay_by_memory s; state = λ own r f h only. relay_stays s own r f h only.basic.no_action; broadcast = λ own r f. refl; status = λ own r f. refl; second = λ own r. refl; push = λ own r c e. refl }
 
@@ -271,4 +284,12 @@ cells_kept =
       relay = λ s. keeps RelayBytes (relay_design s) (relay_plain s);
       panel = λ s. keeps PanelBytes (panel_design s) (panel_plain s);
       buttons = λ s. keeps InterfaceBytes (buttons_design s) (buttons_plain s);
+    }
+
+pub cell_count_kept : EveryModule CellCountKept
+cell_count_kept =
+    record {
+      relay = λ s. count_keeps RelayBytes (relay_design s) (relay_plain s);
+      panel = λ s. count_keeps PanelBytes (panel_design s) (panel_plain s);
+      buttons = λ s. count_keeps InterfaceBytes (buttons_design s) (buttons_plain s);
     }

@@ -78,3 +78,7 @@ WritesNothing own (Pushed p) = Unit
 -- such an event leaves every cell
 abbrev pub CellsKept : Kind → Type 0
 CellsKept k = (own : ℕ) (r : Record) (e : Event) → WritesNothing own e → (k.acts own r e).after.cells ≡ r.cells
+
+-- no event changes how many cells there are
+abbrev pub CellCountKept : Kind → Type 0
+CellCountKept k = (own : ℕ) (r : Record) (e : Event) → length (k.acts own r e).after.cells ≡ length r.cells

@@ -5,7 +5,7 @@
 ghost use Rattle.interface.specs.declared.setup.InterfaceSetup.{InterfaceSetup};
 ghost use Rattle.kinds.specs.Kinds.{panel_kind, EveryRelay, EveryPanel, EveryButtonInterface, EveryModule};
 ghost use Rattle.laws.specs.LampModes.{EveryKindWithLamps};
-ghost use Rattle.module_laws.specs.AllMemory.{OutOfRange, MemoryObeyed, CellsKept};
+ghost use Rattle.module_laws.specs.AllMemory.{OutOfRange, MemoryObeyed, CellsKept, CellCountKept};
 ghost use Rattle.module_laws.specs.AllNew.{NewModules, RecordsAreInPlace};
 ghost use Rattle.module_laws.specs.AllPushes.{EveryPushTold};
 ghost use Rattle.module_laws.specs.AllSent.{SendsWithHeader, SendsAsItself, HearsAnyPriority, AllButRelays, Sizes};
@@ -116,6 +116,7 @@ pub fn all_module_laws() -> u8
     ensures out_of_range { EveryModuleWith OutOfRange }
     ensures memory { EveryModuleWith MemoryObeyed }
     ensures cells_kept { EveryModule CellsKept }
+    ensures cell_count { EveryModule CellCountKept }
     ensures unlisted { EveryUnlistedIgnored }
     ensures pushes { EveryPushTold }
 {
