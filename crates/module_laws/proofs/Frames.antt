@@ -1,12 +1,12 @@
 -- What a command, a button status and a linked address are, and what a frame carries, in numbers. Assumes nothing.
 use Rattle.std.proofs.Common.{◌≡◌, ℕ, zero, suc, ◌+◌, ◌-◌, ◌<◌, ◌≤◌, Bool, true, not, ◌&&◌, ◌||◌, ◌⊎◌, eqb, ltb, List, [], ◌∷◌, ◌++◌, length, take, drop, replicate, get_or, refl, sym, ap, ◌∙◌, inl, inr, arith, length-append}
-use Rattle.std.proofs.lemmas.Bool.{and_parts, and_from, or_left, or_right, cases_Bool, eqb-true, eqb-false, eq-eqb, ne_eqb, ltb-true, ltb-false, lt-ltb, not-true, not_from_false}
+use Rattle.std.proofs.lemmas.Bool.{cond-false, and_parts, and_from, or_left, or_right, cases_Bool, eqb-true, eqb-false, eq-eqb, ne_eqb, ltb-true, ltb-false, lt-ltb, not-true, not_from_false}
 use Rattle.std.proofs.lemmas.List.{get_or_append_left, get_or-append_right, get_or-replicate, get_or-take, get_or-drop, get_or_past, length-take-le, length-replicate}
 use Rattle.bus.specs.Frames.{byte, is_command, zeros, sound_header, well_formed, message}
 use Rattle.station.specs.Kinds.{links, is_status, from_link}
 use Rattle.station.proofs.Puts.{length-put, put_inside, put_outside}
 use Rattle.laws.proofs.Bits.{bit_named}
-use Rattle.module_laws.specs.Frames.{CommandsAre, StatusesAre, TypeRequestsAre, Linkable, LinksAre, StatusOfLink, LinkStatusesAre, HeardFramesAre, Carries, MessagesAre, CellsAreNamed, BytesArePut, BitsAre, EachFrameHasBytes, WellFormed, WellFormedAre}
+use Rattle.module_laws.specs.Frames.{CommandsAre, StatusesAre, TypeRequestsAre, Linkable, LinksAre, StatusOfLink, LinkStatusesAre, HeardFramesAre, Carries, MessagesAre, CellsAreNamed, BytesArePut, BitsAre, EdgesAre, EachFrameHasBytes, WellFormed, WellFormedAre}
 
 pub commands_are : CommandsAre
 commands_are code count f = (apart, together)
@@ -170,3 +170,14 @@ well_formed_are f = (apart, together)
     together h =
         and_from _ _ (header h.priority h.rtr)
         (zero_all (drop f.count f.bytes) (λ i. get_or-drop f.count f.bytes i 0 ∙ h.zeros (f.count + i) (omega arith)))
+
+pub edges_are : EdgesAre
+edges_are =
+    record {
+      press = refl;
+      release = refl;
+      long_press = refl;
+      no_other = λ n h.
+          cond-false (eqb n 0) _ _ (ne_eqb n 0 (λ e. omega (arith, e)))
+          ∙ (cond-false (eqb n 1) _ _ (ne_eqb n 1 (λ e. omega (arith, e))) ∙ cond-false (eqb n 2) _ _ (ne_eqb n 2 (λ e. omega (arith, e))));
+    }

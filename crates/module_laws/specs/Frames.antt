@@ -1,7 +1,10 @@
 -- What a command, a button status and a linked address are, and what a frame carries, in numbers. Assumes nothing.
-use Rattle.std.specs.Prelude.{◌≡◌, ℕ, ◌+◌, ◌-◌, ◌*◌, ◌/◌, ◌%◌, ◌^◌, ◌<◌, ◌≤◌, ◌≢◌, ◌⊎◌, ◌↔◌, ◌==◌, true, List, length, slice_index}
+use Rattle.std.specs.Prelude.{◌≡◌, ℕ, ◌+◌, ◌-◌, ◌*◌, ◌/◌, ◌%◌, ◌^◌, ◌<◌, ◌≤◌, ◌≢◌, ◌⊎◌, ◌↔◌, ◌==◌, true, List, length, Ok, Err, slice_index}
 use Rattle.bus.specs.declared.frame.Frame.{Frame}
+use Rattle.bus.specs.declared.refusal.Refusal.TheVariants.{NoSuchButton}
 use Rattle.bus.specs.Frames.{byte, seconds_in, is_command, is_type_request, well_formed, message}
+use Rattle.station.specs.declared.edge.Edge.TheVariants.{Press, Release, LongPress}
+use Rattle.station.specs.Edges.{numbered_edge}
 use Rattle.station.specs.Kinds.{Record, Kind, links, is_status, from_link, hears}
 use Rattle.station.specs.Rules.{cell, put}
 use Rattle.module.specs.Bits.{has_bit}
@@ -97,3 +100,10 @@ BytesArePut = (cells : List ℕ) (at : ℕ) (bs : List ℕ) → PutIn cells at b
 pub record BitsAre : Type 0 where
   pub place : (n i : ℕ) → has_bit n (2 ^ i) ≡ (n / 2 ^ i % 2 == 1)
   pub channel : (c : ℕ) → bit c ≡ 2 ^ (c - 1)
+
+-- 0 is a press, 1 a release and 2 a long press; no other number is an edge
+pub record EdgesAre : Type 0 where
+  pub press : numbered_edge 0 ≡ Ok Press
+  pub release : numbered_edge 1 ≡ Ok Release
+  pub long_press : numbered_edge 2 ≡ Ok LongPress
+  pub no_other : (n : ℕ) → 2 < n → numbered_edge n ≡ Err NoSuchButton

@@ -11,7 +11,7 @@ ghost use Rattle.module_laws.specs.AllPushes.{EveryPushTold};
 ghost use Rattle.module_laws.specs.AllSent.{SendsWithHeader, SendsAsItself, HearsAnyPriority, AllButRelays, Sizes};
 ghost use Rattle.module_laws.specs.AllUnlisted.{EveryUnlistedIgnored};
 ghost use Rattle.module_laws.specs.Examples.{RecordsFit, AsksOrNot, ListedOrNot, InRangeOrNot, StateBytesOrNot};
-ghost use Rattle.module_laws.specs.Frames.{CommandsAre, StatusesAre, TypeRequestsAre, EachFrameHasBytes, WellFormedAre, LinksAre, LinkStatusesAre, HeardFramesAre, MessagesAre, CellsAreNamed, BytesArePut, BitsAre};
+ghost use Rattle.module_laws.specs.Frames.{CommandsAre, StatusesAre, TypeRequestsAre, EachFrameHasBytes, WellFormedAre, LinksAre, LinkStatusesAre, HeardFramesAre, MessagesAre, CellsAreNamed, BytesArePut, BitsAre, EdgesAre};
 ghost use Rattle.module_laws.specs.InterfaceCells.{RecordsAloneCount};
 ghost use Rattle.module_laws.specs.InterfaceClock.{ClockSet, ClockMoves};
 ghost use Rattle.module_laws.specs.InterfaceKeeps.{HoldsKept, PressedKept, ClockKept};
@@ -93,6 +93,7 @@ pub fn frame_laws() -> u8
     ensures cells { CellsAreNamed }
     ensures put { BytesArePut }
     ensures bits { BitsAre }
+    ensures edges { EdgesAre }
 {
     0
 }

@@ -1,4 +1,4 @@
-use Rattle.module_laws.proofs.Frames.{commands_are, statuses_are, type_requests_are, links_are, link_statuses_are, hearing, messages_are, cells_are_named, bytes_are_put, bits_are, each_frame_has_bytes, well_formed_are}
+use Rattle.module_laws.proofs.Frames.{commands_are, statuses_are, type_requests_are, links_are, link_statuses_are, hearing, messages_are, cells_are_named, bytes_are_put, bits_are, edges_are, each_frame_has_bytes, well_formed_are}
 use Rattle.module_laws.proofs.frame_laws.Goals as goal
 
 pub returns : goal.returns
@@ -16,4 +16,5 @@ returns c =
       cells = cells_are_named;
       put = bytes_are_put;
       bits = bits_are;
+      edges = edges_are;
     }
