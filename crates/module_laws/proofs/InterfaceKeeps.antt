@@ -1,7 +1,8 @@
 -- What alone changes the holds, the pressed buttons, the lamps and the clock of a button interface. Assumes nothing.
-use Rattle.std.proofs.Common.{◌≡◌, ℕ, zero, suc, ◌+◌, ◌-◌, ◌*◌, ◌<◌, ◌≤◌, Bool, true, false, cond, ◌&&◌, ◌||◌, eqb, ltb, List, get_or, is_some, Some, None, Option, sym, refl, ap, ◌∙◌, inl, inr, arith}
+use Rattle.std.proofs.Common.{◌≡◌, ℕ, zero, suc, ◌+◌, ◌-◌, ◌<◌, ◌≤◌, Bool, true, false, cond, ◌&&◌, ◌||◌, eqb, ltb, List, get_or, is_some, Some, None, Option, sym, refl, ap, ◌∙◌, inl, inr, arith}
 use lib.Bits.{bit_and}
 use Rattle.std.proofs.lemmas.Bool.{cases_Bool, and_left, and_right, cond-false, cond_both, ne_eqb, eqb-true, lt-ltb}
+use Rattle.std.proofs.Math.Bool.{and_comm}
 use Rattle.bus.specs.declared.frame.Frame.{Frame}
 use Rattle.bus.specs.Frames.{byte, is_command, seconds_in}
 use Rattle.station.specs.declared.event.Event.{Event}
@@ -71,12 +72,16 @@ asking action code = by (eqb action 3) (eqb action 4) (eqb action 5) (hold_of_co
     by false false true o = refl
     by false false false o = refl
 
+-- three tests in another order
+reordered : (a s n : Bool) → (a && (s && n)) ≡ ((a && n) && s)
+reordered true s n = and_comm s n
+reordered false s n = refl
+
 acts_same : (cells : List ℕ) (f : Frame) (channel k : ℕ) → 1 ≤ channel → channel ≤ 8 → record_acts variant cells f channel k ≡ record_asks cells f channel k
 acts_same cells f channel k low high =
-    let start : 0x0100 + 5 * k + 0 ≡ 0x0100 + 5 * k = omega arith in
-    (λ i.
-    (eqb (get_or cells (start i) 0) f.address && has_bit (link_byte cells k 1) (byte f 1))
-    && (asking (link_byte cells k 2) (link_byte cells k 3) i && same_bit (link_byte cells k 4) channel low high i))
+    let sent : Bool = eqb (link_byte cells k 0) f.address && has_bit (link_byte cells k 1) (byte f 1) in
+    (λ i. sent && (asking (link_byte cells k 2) (link_byte cells k 3) i && same_bit (link_byte cells k 4) channel low high i))
+    ∙ reordered sent (cond (eqb (link_byte cells k 2) 3 || eqb (link_byte cells k 2) 4) (ltb (link_byte cells k 3) 252) (eqb (link_byte cells k 2) 5)) (names_channel (link_byte cells k 4) channel)
 
 asks_nothing : (s : InterfaceSetup) (own : ℕ) (r : Record) (channel : ℕ) → 1 ≤ channel → channel ≤ 8 → (e : Event) → AsksNoHold (buttons_kind s) own r channel e → AsksNothing variant (buttons_kind s) own r channel e
 asks_nothing s own r channel low high (Heard f) h = ((λ at. nothing_commanded f channel low high (h.0 at)), (λ l k m. acts_same r.cells f channel k low high ∙ h.1 l k m))

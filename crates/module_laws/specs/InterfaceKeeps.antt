@@ -1,20 +1,18 @@
 -- What alone changes the holds, the pressed buttons, the lamps and the clock of a button interface. Assumes nothing.
-use Rattle.std.specs.Prelude.{◌≡◌, ℕ, ◌+◌, ◌*◌, ◌<◌, ◌≤◌, ◌≢◌, Bool, true, false, cond, not, ◌&&◌, ◌||◌, ◌⊎◌, List, ◌==◌, nat_lt, bit_and, slice_index}
+use Rattle.std.specs.Prelude.{◌≡◌, ℕ, ◌<◌, ◌≤◌, ◌≢◌, Bool, true, false, cond, ◌&&◌, ◌||◌, ◌⊎◌, List, ◌==◌, nat_lt, slice_index}
 use Rattle.bus.specs.declared.frame.Frame.{Frame}
 use Rattle.bus.specs.Frames.{is_command}
 use Rattle.station.specs.declared.event.Event.{Event}
 use Rattle.station.specs.declared.event.Event.TheVariants.{Heard, Second, Pushed}
 use Rattle.station.specs.Kinds.{Record, Kind, from_link}
+use Rattle.module_laws.specs.InterfaceRecords.{record_byte, fits}
 use Rattle.module_laws.specs.InterfaceStates.{hold, pressed_bits, names_channel}
 
--- link record k, of five cells from H'0100' + 5 x k on, asks something of the channel on a button status: it bears the
--- sender's address, has a bit in common with the buttons just pressed, locks or toggles (3, 4) with a code below 252 or
--- frees (5), and names the channel
+-- link record k asks something of the channel on a button status: it fits, and locks or toggles (3, 4) with a code below 252
+-- or frees (5)
 abbrev pub record_asks : List ℕ → Frame → ℕ → ℕ → Bool
 record_asks cells f channel k =
-    (slice_index cells (0x0100 + 5 * k) == f.address && not (bit_and (slice_index cells (0x0100 + 5 * k + 1)) (slice_index f.bytes 1) == 0))
-    && (cond (slice_index cells (0x0100 + 5 * k + 2) == 3 || slice_index cells (0x0100 + 5 * k + 2) == 4) (nat_lt (slice_index cells (0x0100 + 5 * k + 3)) 252) (slice_index cells (0x0100 + 5 * k + 2) == 5)
-    && names_channel (slice_index cells (0x0100 + 5 * k + 4)) channel)
+    fits cells f channel k && cond (record_byte cells k 2 == 3 || record_byte cells k 2 == 4) (nat_lt (record_byte cells k 3) 252) (record_byte cells k 2 == 5)
 
 -- the event asks nothing of a channel: it is no 12 and no 13 at the own address that names it, no button status from a
 -- linked address on which one of the 51 records asks something of it, and no second while a time runs
