@@ -1,4 +1,5 @@
 pub mod RelayCommands
+pub mod RelayPairs
 pub mod RelayReports
 pub mod RelayListener
 pub mod RelayTimes

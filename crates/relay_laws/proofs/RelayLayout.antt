@@ -1,9 +1,8 @@
 -- Where the pairs of a relay stand in its memory, and which cells say nothing. Assumes nothing.
 use Rattle.std.proofs.Common.{◌≡◌, ℕ, ◌+◌, ◌*◌, ◌/◌, ◌%◌, ◌<◌, ◌≤◌, ◌≢◌, Bool, true, false, cond, not, ◌&&◌, ◌||◌, eqb, ltb, List, [], ◌++◌, get_or, is_some, Some, None, Option, sym, refl, ap, ◌∙◌, subst, inl, inr, arith}
-use lib.Bits.{bit_and}
 use Rattle.std.proofs.lemmas.Bool.{and_parts, and_from, or_parts, or_cases, or_left, or_right, eqb-true, eq-eqb, ne_eqb, ltb-true, lt-ltb, both_ways, cases_eq, not-true, false≢true}
 use Rattle.bus.specs.declared.frame.Frame.{Frame}
-use Rattle.bus.specs.Frames.{byte, is_command}
+use Rattle.bus.specs.Frames.{is_command}
 use Rattle.station.specs.declared.event.Event.{Event}
 use Rattle.station.specs.declared.event.Event.TheVariants.{Heard, Second, Pushed}
 use Rattle.station.specs.Kinds.{Record, Outcome, from_link, links, is_status}
@@ -22,52 +21,12 @@ use Rattle.relay.specs.Tables.{pair_cell, matches, first_pair, named_in, named, 
 use Rattle.laws.specs.Channels.{ChannelNumber, channel_1, channel_2, channel_3, channel_4, index, of_channel}
 use Rattle.laws.specs.CountingCells.{SameWhere, AlikeRecords, reads, ActAlike}
 use Rattle.laws.proofs.CountingCells.{first_same, stored_alike, ignored}
-use Rattle.laws.specs.Pairs.{FirstMatch, NoMatch}
 use Rattle.laws.proofs.Pairs.{first_pair_found, no_pair_found, first_match_obeyed, no_match_kept}
 use Rattle.kinds.specs.Kinds.{relay_kind, EveryRelay}
-use Rattle.relay_laws.specs.RelayReports.{fits}
+use Rattle.relay_laws.specs.RelayPairs.{place}
+use Rattle.relay_laws.proofs.RelayPairs.{counted, first_match, none_match}
 use Rattle.relay_laws.proofs.RelayReports.{no_memory}
-use Rattle.relay_laws.specs.RelayLayout.{place, pair_fits, FirstFits, within_range, becomes, Row, NoneFits, be_open, be_closed, run_timer_1, run_timer_2, ActionsObeyed, SomePairBears, PairsLink, Idle, Counts, IdleCellsIgnored}
-
--- a pair of the definitions is one of a table
-counted : (c : ChannelNumber) (t i : ℕ) → pair_cell (index c) (15 * t + i) ≡ place c t i
-counted c t i = omega arith
-
-match_of : (cells : List ℕ) (c : ChannelNumber) (f : Frame) (t i : ℕ) → i < 15 → (t ≢ 3) → matches cells (index c) (query f) (15 * t + i) ≡ pair_fits cells c f t i
-match_of cells c f t i l d =
-    let other : not (eqb ((15 * t + i) / 15) 3) ≡ true = ap not (ne_eqb ((15 * t + i) / 15) 3 (λ e. d (omega arith))) in
-    (λ j. other j && (eqb (get_or cells (counted c t i j) 0) f.address && in_common (Some (byte f 1)) (get_or cells (counted c t i j + 1) 0)))
-
--- the pair by its number among the 120 of its channel
-pub fits_in_table : (cells : List ℕ) (c : ChannelNumber) (f : Frame) (t i : ℕ) → i < 15 → (t ≢ 3) → fits cells c f (15 * t + i) ≡ pair_fits cells c f t i
-fits_in_table cells c f t i l d =
-    let other : not (eqb ((15 * t + i) / 15) 3) ≡ true = ap not (ne_eqb ((15 * t + i) / 15) 3 (λ e. d (omega arith))) in
-    (λ j. other j && (eqb (get_or cells (counted c t i j) 0) f.address && not (eqb (bit_and (get_or cells (counted c t i j + 1) 0) (byte f 1)) 0)))
-
--- table 3 fits nothing
-skipped : (cells : List ℕ) (c : ChannelNumber) (f : Frame) (q : ℕ) → q / 15 ≡ 3 → matches cells (index c) (query f) q ≡ false
-skipped cells c f q three =
-    ap (λ b. not b && (eqb (get_or cells (pair_cell (index c) q) 0) f.address && in_common (Some (byte f 1)) (get_or cells (pair_cell (index c) q + 1) 0)))
-    (eq-eqb (q / 15) 3 three)
-
-first_match : (cells : List ℕ) (c : ChannelNumber) (f : Frame) (t i : ℕ) → t < 8 → (t ≢ 3) → FirstFits cells c f t i → FirstMatch cells (index c) (query f) (15 * t + i)
-first_match cells c f t i l d h =
-    let small : i < 15 = h.within in
-    record {
-      in_table = omega arith;
-      matching = match_of cells c f t i h.within d ∙ h.it_fits;
-      earlier = λ q m. before q m;
-    }
-  where
-    before : (q : ℕ) → q < 15 * t + i → matches cells (index c) (query f) q ≡ false
-    before q m =
-        let whole : q ≡ 15 * (q / 15) + q % 15 = omega arith in
-        elim (cases_eq (q / 15) 3) [
-          | inl three ↦ skipped cells c f q three
-          | inr other ↦
-              ap (matches cells (index c) (query f)) whole
-              ∙ (match_of cells c f (q / 15) (q % 15) (omega arith) other ∙ h.none_before (q / 15) (q % 15) (omega arith) other (omega arith))
-        ]
+use Rattle.relay_laws.specs.RelayLayout.{within_range, becomes, Row, be_open, be_closed, run_timer_1, run_timer_2, ActionsObeyed, SomePairBears, PairsLink, Idle, Counts, IdleCellsIgnored}
 
 -- what the pairs of a table ask
 abbrev asked_at : Timers → ℕ → Action
@@ -111,14 +70,6 @@ row_obeyed t from_open from_closed from_running l d same s own r f c i linked h 
     let number : p / 15 ≡ t = omega arith in
     first_match_obeyed s own r f linked c p (first_match r.cells c f t i l d h)
     ∙ (ap (λ n. obeyed (asked_at (of_channel c s.timers) n) (of_channel c (contacts r))) number ∙ same (of_channel c s.timers) (of_channel c (contacts r)))
-
-none_match : (cells : List ℕ) (c : ChannelNumber) (f : Frame) → NoneFits cells c f → NoMatch cells (index c) (query f)
-none_match cells c f h q l =
-    let whole : q ≡ 15 * (q / 15) + q % 15 = omega arith in
-    elim (cases_eq (q / 15) 3) [
-      | inl three ↦ skipped cells c f q three
-      | inr other ↦ ap (matches cells (index c) (query f)) whole ∙ (match_of cells c f (q / 15) (q % 15) (omega arith) other ∙ h (q / 15) (q % 15) (omega arith) other (omega arith))
-    ]
 
 pub actions_obeyed : ActionsObeyed
 actions_obeyed =

@@ -1,5 +1,5 @@
 -- What a relay tells of its channels. Assumes nothing.
-use Rattle.std.proofs.Common.{◌≡◌, ℕ, ◌+◌, Bool, true, false, cond, not, ◌&&◌, ◌||◌, eqb, List, [], ◌∷◌, ◌++◌, Some, None, Option, sym, refl, ap, ◌∙◌}
+use Rattle.std.proofs.Common.{◌≡◌, ℕ, ◌+◌, ◌*◌, Bool, true, false, cond, not, ◌&&◌, ◌||◌, eqb, List, [], ◌∷◌, ◌++◌, get_or, Some, None, Option, sym, refl, ap, ◌∙◌}
 use Rattle.std.proofs.lemmas.Bool.{cond-true, cond-false, cond_both, or_parts, or_from, both_ways}
 use Rattle.bus.specs.declared.frame.Frame.{Frame}
 use Rattle.bus.specs.Frames.{is_command, message}
@@ -17,14 +17,15 @@ use Rattle.relay.specs.Contacts.{Contact, opened, closed, running, is_closed}
 use Rattle.relay.specs.Relays.{contacts, commanded, named_channels, carried_out, answer, query, pairs, by_pairs, pair_bits, all_bits, all_ticked}
 use Rattle.relay.specs.Relays.{design as relay_design}
 use Rattle.relay.specs.Reports.{made, told, statuses, differ, rise, risen, switched, report, lamp, lamps}
-use Rattle.relay.specs.Tables.{first_pair}
+use Rattle.relay.specs.Tables.{pair_cell, first_pair}
 use Rattle.relay.proofs.Decoded.{decoded}
 use Rattle.relay.proofs.Unchanged.{same_unreported}
 use Rattle.laws.specs.Channels.{ChannelNumber, channel_1, channel_2, channel_3, channel_4, index, of_channel}
-use Rattle.laws.proofs.Pairs.{first_pair_found, no_pair_found}
 use Rattle.kinds.specs.Kinds.{relay_kind, EveryRelay}
 use Rattle.relay_laws.specs.RelayCommands.{is_named}
-use Rattle.relay_laws.specs.RelayReports.{bit_of, is_made, closes, opens, channel_status, where_so, in_turn, bits_where, one_switch, changes_told, Obeys, lamp_told, by_link, is_question, ReportsExactly}
+use Rattle.relay_laws.specs.RelayPairs.{place, PairNumber, Obeys}
+use Rattle.relay_laws.proofs.RelayPairs.{counted, among_all, pair_found, numbered, found_pair, only_one}
+use Rattle.relay_laws.specs.RelayReports.{bit_of, is_made, closes, opens, channel_status, where_so, in_turn, bits_where, one_switch, changes_told, lamp_told, by_link, is_question, ReportsExactly}
 use Rattle.relay_laws.proofs.RelayCommands.{named, asks_none}
 
 made_same : (x : Contact) → is_made x ≡ is_closed x
@@ -73,30 +74,26 @@ report_same own was is =
     ++ switch i)
 
 -- the lamps, in the two spellings
-lamp_same : (cells : List ℕ) (a : ℕ) (c : ChannelNumber) (p : Option ℕ) (was is : Contact) →
-    lamp a (is_closed was) (is_closed is) (pair_bits cells (index c) p) ≡ lamp_told cells a c p was is
+bits_same : (cells : List ℕ) (c : ChannelNumber) (p : PairNumber) → get_or cells (pair_cell (index c) (15 * p.table + p.number) + 1) 0 ≡ get_or cells (place c p.table p.number + 1) 0
+bits_same cells c p = ap (λ n. get_or cells (n + 1) 0) (counted c p.table p.number)
+
+lit_same : (a bits : ℕ) (was is : Contact) →
+    lamp a (is_closed was) (is_closed is) (Some bits) ≡ where_so (closes was is) (message 3 a (0xF6 ∷ bits ∷ [])) ++ where_so (opens was is) (message 3 a (0xF5 ∷ bits ∷ []))
+lit_same a bits opened opened = refl
+lit_same a bits opened closed = refl
+lit_same a bits opened (running n) = refl
+lit_same a bits closed opened = refl
+lit_same a bits closed closed = refl
+lit_same a bits closed (running n) = refl
+lit_same a bits (running m) opened = refl
+lit_same a bits (running m) closed = refl
+lit_same a bits (running m) (running n) = refl
+
+lamp_same : (cells : List ℕ) (a : ℕ) (c : ChannelNumber) (p : Option PairNumber) (was is : Contact) →
+    lamp a (is_closed was) (is_closed is) (pair_bits cells (index c) (among_all p)) ≡ lamp_told cells a c p was is
 lamp_same cells a c None was is = refl
-lamp_same cells a c (Some q) opened opened = refl
-lamp_same cells a c (Some q) opened closed = refl
-lamp_same cells a c (Some q) opened (running n) = refl
-lamp_same cells a c (Some q) closed opened = refl
-lamp_same cells a c (Some q) closed closed = refl
-lamp_same cells a c (Some q) closed (running n) = refl
-lamp_same cells a c (Some q) (running m) opened = refl
-lamp_same cells a c (Some q) (running m) closed = refl
-lamp_same cells a c (Some q) (running m) (running n) = refl
-
--- the pair obeyed is the one that is found
-pub pair_found : (cells : List ℕ) (c : ChannelNumber) (f : Frame) (p : Option ℕ) → Obeys cells c f p → first_pair cells (index c) (query f) ≡ p
-pair_found cells c f None h = (no_pair_found cells (index c) (query f)).1 h
-pair_found cells c f (Some q) h =
-    (first_pair_found cells (index c) (query f) q).1 (record { in_table = h.in_table; matching = h.it_fits; earlier = h.none_before })
-
-found_pair : (cells : List ℕ) (c : ChannelNumber) (f : Frame) (p : Option ℕ) → first_pair cells (index c) (query f) ≡ p → Obeys cells c f p
-found_pair cells c f None e = (no_pair_found cells (index c) (query f)).0 e
-found_pair cells c f (Some q) e =
-    let m = (first_pair_found cells (index c) (query f) q).0 e in
-    record { in_table = m.in_table; it_fits = m.matching; none_before = m.earlier }
+lamp_same cells a c (Some p) was is =
+    ap (λ bits. lamp a (is_closed was) (is_closed is) (Some bits)) (bits_same cells c p) ∙ lit_same a (get_or cells (place c p.table p.number + 1) 0) was is
 
 -- the records after each event
 pub after_command : (s : RelaySetup) (own : ℕ) (r : Record) (f : Frame) → f.address ≡ own →
@@ -144,24 +141,23 @@ itself s own r Second q l = report_same own (contacts r) (all_ticked (contacts r
 itself s own r (Pushed p) q l = cond_both (eqb p.address own) (idle r) (idle r) (Tells own r) (λ _. idle_tells own r) (λ _. idle_tells own r)
 
 -- the changes and the lamps of two sets of contacts
-abbrev all_told : ℕ → Record → Frame → (ChannelNumber → Option ℕ) → PerChannel Contact → List Frame
+abbrev all_told : ℕ → Record → Frame → (ChannelNumber → Option PairNumber) → PerChannel Contact → List Frame
 all_told own r f pair is =
     changes_told own (contacts r) is ++ in_turn (λ c. lamp_told r.cells f.address c (pair c) (of_channel c (contacts r)) (of_channel c is))
 
-by_a_link : (s : RelaySetup) (own : ℕ) (r : Record) (f : Frame) (pair : ChannelNumber → Option ℕ) → from_link (relay_kind s) own r f ≡ true → ((c : ChannelNumber) → Obeys r.cells c f (pair c)) →
+by_a_link : (s : RelaySetup) (own : ℕ) (r : Record) (f : Frame) (pair : ChannelNumber → Option PairNumber) → from_link (relay_kind s) own r f ≡ true → ((c : ChannelNumber) → Obeys r.cells c f (pair c)) →
     ((relay_kind s).acts own r (Heard f)).sent ≡ all_told own r f pair (contacts ((relay_kind s).acts own r (Heard f)).after)
 by_a_link s own r f pair l h =
     let was = contacts r in
     let is = by_pairs s.timers (pairs r.cells f) was in
     let a = f.address in
-    let found : (c : ChannelNumber) → lamp_told r.cells a c (first_pair r.cells (index c) (query f)) (of_channel c was) (of_channel c is) ≡ lamp_told r.cells a c (pair c) (of_channel c was) (of_channel c is) =
-    λ c. ap (λ p. lamp_told r.cells a c p (of_channel c was) (of_channel c is)) (pair_found r.cells c f (pair c) (h c)) in
+    let found : (c : ChannelNumber) →
+    lamp a (is_closed (of_channel c was)) (is_closed (of_channel c is)) (pair_bits r.cells (index c) (first_pair r.cells (index c) (query f))) ≡ lamp_told r.cells a c (pair c) (of_channel c was) (of_channel c is) =
+    λ c.
+    ap (λ p. lamp a (is_closed (of_channel c was)) (is_closed (of_channel c is)) (pair_bits r.cells (index c) p)) (pair_found r.cells c f (pair c) (h c))
+    ∙ lamp_same r.cells a c (pair c) (of_channel c was) (of_channel c is) in
     let lit : lamps a (made was) (made is) (all_bits r.cells (pairs r.cells f)) ≡ in_turn (λ c. lamp_told r.cells a c (pair c) (of_channel c was) (of_channel c is)) =
-    λ i.
-    (lamp_same r.cells a channel_1 (first_pair r.cells 0 (query f)) was.one is.one ∙ found channel_1) i
-    ++ ((lamp_same r.cells a channel_2 (first_pair r.cells 1 (query f)) was.two is.two ∙ found channel_2) i
-    ++ ((lamp_same r.cells a channel_3 (first_pair r.cells 2 (query f)) was.three is.three ∙ found channel_3) i
-    ++ (lamp_same r.cells a channel_4 (first_pair r.cells 3 (query f)) was.four is.four ∙ found channel_4) i)) in
+    λ i. found channel_1 i ++ (found channel_2 i ++ (found channel_3 i ++ found channel_4 i)) in
     ap (λ o. o.sent) (at_link (relay_design s) own r f l)
     ∙ ((λ i. report_same own was is i ++ lit i) ∙ ap (all_told own r f pair) (sym (after_status s own r f l)))
 
@@ -189,6 +185,7 @@ reports_exactly s =
     record {
       by_itself = itself s;
       linked = by_a_link s;
-      one_obeyed = λ cells c f. (first_pair cells (index c) (query f), found_pair cells c f (first_pair cells (index c) (query f)) refl);
+      some_obeyed = λ cells c f. (numbered (first_pair cells (index c) (query f)), found_pair cells c f (first_pair cells (index c) (query f)) refl);
+      no_other = only_one;
       asked = asked_tells s;
     }

@@ -26,12 +26,13 @@ use Rattle.laws.specs.Times.{ticked_for, Ran}
 use Rattle.laws.proofs.Times.{time_ends}
 use Rattle.kinds.specs.Kinds.{relay_kind, EveryRelay}
 use Rattle.relay_laws.specs.RelayCommands.{is_named}
-use Rattle.relay_laws.specs.RelayReports.{bit_of, channel_status, fits}
+use Rattle.relay_laws.specs.RelayReports.{bit_of, channel_status}
+use Rattle.relay_laws.specs.RelayPairs.{NoneFits}
 use Rattle.relay_laws.specs.RelayListener.{sent_over}
 use Rattle.relay_laws.specs.RelayTimes.{AsksNothing, NoneAsks, has_channel, IsIn, TellsNoEnd, TellsEnd, TimesRun, ChannelsStay}
 use Rattle.laws.specs.Numbers.{seconds_among}
 use Rattle.relay_laws.proofs.RelayCommands.{named, asks_none, unnamed_kept}
-use Rattle.relay_laws.proofs.RelayReports.{pair_found}
+use Rattle.relay_laws.proofs.RelayPairs.{pair_found}
 use Rattle.relay_laws.proofs.RelayListener.{Bits, bits}
 
 -- each channel after a command, a status and a second
@@ -70,7 +71,7 @@ command_keeps f c x h =
       | inr unnamed ↦ ap (λ b. carried (commanded f) b (of_channel c x)) unnamed ∙ unnamed_kept (commanded f) (of_channel c x)
     ]
 
-status_keeps : (s : RelaySetup) (cells : List ℕ) (f : Frame) (c : ChannelNumber) (x : PerChannel Contact) → ((q : ℕ) → q < 120 → fits cells c f q ≡ false) →
+status_keeps : (s : RelaySetup) (cells : List ℕ) (f : Frame) (c : ChannelNumber) (x : PerChannel Contact) → NoneFits cells c f →
     of_channel c (by_pairs s.timers (pairs cells f) x) ≡ of_channel c x
 status_keeps s cells f c x h = each_paired s cells f c x ∙ ap (λ p. by_pair (of_channel c s.timers) p (of_channel c x)) (pair_found cells c f None h)
 
@@ -165,7 +166,7 @@ command_passes s own r f c h =
           (λ _. report_tells own c was is m n e (kept ∙ g)));
     }
 
-status_passes : (s : RelaySetup) (own : ℕ) (r : Record) (f : Frame) (c : ChannelNumber) → ((q : ℕ) → q < 120 → fits r.cells c f q ≡ false) → Passes c r (of_channel c (contacts r)) ((relay_design s).status own r f)
+status_passes : (s : RelaySetup) (own : ℕ) (r : Record) (f : Frame) (c : ChannelNumber) → NoneFits r.cells c f → Passes c r (of_channel c (contacts r)) ((relay_design s).status own r f)
 status_passes s own r f c h =
     let P : Frame → Type 0 = TellsNoEnd c in
     let was = contacts r in

@@ -13,8 +13,8 @@ use Rattle.laws.specs.Channels.{channel_1, channel_2, of_channel}
 use Rattle.kinds.specs.Kinds.{relay_kind}
 use Rattle.relay_laws.specs.RelayCommands.{Asks}
 use Rattle.laws.specs.CountingCells.{AlikeRecords}
-use Rattle.relay_laws.specs.RelayLayout.{FirstFits, NoneFits, SomePairBears, Counts}
-use Rattle.relay_laws.specs.RelayReports.{Obeys}
+use Rattle.relay_laws.specs.RelayPairs.{FirstFits, NoneFits, Obeys}
+use Rattle.relay_laws.specs.RelayLayout.{SomePairBears, Counts}
 use Rattle.relay_laws.specs.RelayTimes.{NoneAsks}
 
 -- a relay with one pair, the first of table 5 of channel 1, for button 1 at 0x20; channel 2 runs for nine seconds more, the
@@ -42,7 +42,7 @@ run_command address channels = message 3 address (0x03 ∷ channels ∷ 0 ∷ 0 
 pub record PairsFit (s : RelaySetup) : Type 0 where
   pub link : from_link (relay_kind s) 0x10 linked (pressed 0x20 1) ≡ true
   pub fits : FirstFits linked.cells channel_1 (pressed 0x20 1) 5 0
-  pub obeyed : Obeys linked.cells channel_1 (pressed 0x20 1) (Some 75)
+  pub obeyed : Obeys linked.cells channel_1 (pressed 0x20 1) (Some (record { table = 5; number = 0 }))
   pub none : NoneFits linked.cells channel_2 (pressed 0x20 1)
   pub none_obeyed : Obeys linked.cells channel_2 (pressed 0x20 1) None
   pub other_button : FirstFits linked.cells channel_1 (pressed 0x20 2) 5 0 → ⊥

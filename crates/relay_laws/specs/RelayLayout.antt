@@ -1,5 +1,5 @@
 -- Where the pairs of a relay stand in its memory, and which cells say nothing. Assumes nothing.
-use Rattle.std.specs.Prelude.{◌≡◌, ℕ, ◌+◌, ◌*◌, ◌%◌, ◌<◌, ◌≤◌, ◌≢◌, min, max, Bool, true, false, not, ◌&&◌, ◌⊎◌, ◌↔◌, List, ◌==◌, bit_and, slice_index}
+use Rattle.std.specs.Prelude.{◌≡◌, ℕ, ◌%◌, ◌<◌, ◌≤◌, ◌≢◌, min, max, true, ◌⊎◌, ◌↔◌, List, slice_index}
 use Rattle.bus.specs.declared.frame.Frame.{Frame}
 use Rattle.station.specs.declared.event.Event.TheVariants.{Heard}
 use Rattle.station.specs.Kinds.{Record, Kind, from_link, links}
@@ -7,24 +7,10 @@ use Rattle.relay.specs.declared.relay.RelaySetup.{RelaySetup}
 use Rattle.relay.specs.declared.timers.Timers.{Timers}
 use Rattle.relay.specs.Contacts.{Contact, opened, closed, running}
 use Rattle.relay.specs.Relays.{contacts}
-use Rattle.laws.specs.Channels.{ChannelNumber, index, of_channel}
+use Rattle.laws.specs.Channels.{ChannelNumber, of_channel}
 use Rattle.laws.specs.CountingCells.{OtherCellsIgnored}
 use Rattle.kinds.specs.Kinds.{relay_kind}
-
--- where pair i of table t of a channel begins: with the address, then the button bits
-abbrev pub place : ChannelNumber → ℕ → ℕ → ℕ
-place c t i = 256 * index c + 30 * t + 2 * i
-
--- that pair bears the sender's address and has a bit in common with the buttons just pressed
-abbrev pub pair_fits : List ℕ → ChannelNumber → Frame → ℕ → ℕ → Bool
-pair_fits cells c f t i =
-    slice_index cells (place c t i) == f.address && not (bit_and (slice_index cells (place c t i + 1)) (slice_index f.bytes 1) == 0)
-
--- it is the first of the channel that does, but for those of table 3, which do not count
-pub record FirstFits (cells : List ℕ) (c : ChannelNumber) (f : Frame) (t i : ℕ) : Type 0 where
-  pub within : i < 15
-  pub it_fits : pair_fits cells c f t i ≡ true
-  pub none_before : (u j : ℕ) → j < 15 → (u ≢ 3) → place c u j < place c t i → pair_fits cells c f u j ≡ false
+use Rattle.relay_laws.specs.RelayPairs.{place, FirstFits, NoneFits}
 
 -- a time brought into 1 to FFFFFE
 abbrev pub within_range : ℕ → ℕ
@@ -41,10 +27,6 @@ abbrev pub Row : ℕ → (Timers → Contact) → (Timers → Contact) → (Time
 Row t from_open from_closed from_running =
     (s : RelaySetup) (own : ℕ) (r : Record) (f : Frame) (c : ChannelNumber) (i : ℕ) → from_link (relay_kind s) own r f ≡ true → FirstFits r.cells c f t i →
     of_channel c (contacts ((relay_kind s).acts own r (Heard f)).after) ≡ becomes from_open from_closed from_running (of_channel c s.timers) (of_channel c (contacts r))
-
--- no pair of the channel fits
-abbrev pub NoneFits : List ℕ → ChannelNumber → Frame → Type 0
-NoneFits cells c f = (t i : ℕ) → t < 8 → (t ≢ 3) → i < 15 → pair_fits cells c f t i ≡ false
 
 -- to be open, to be closed, and to run for timer 1 and for timer 2, whatever the timers are
 abbrev pub be_open : Timers → Contact

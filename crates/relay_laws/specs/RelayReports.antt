@@ -1,5 +1,5 @@
 -- What a relay tells of its channels. Assumes nothing.
-use Rattle.std.specs.Prelude.{◌≡◌, ℕ, ◌+◌, ◌*◌, ◌/◌, ◌%◌, ◌<◌, Bool, true, false, cond, not, ◌&&◌, ◌||◌, List, [], ◌∷◌, ◌++◌, Some, None, Option, ◌==◌, bit_and, slice_index}
+use Rattle.std.specs.Prelude.{◌≡◌, ℕ, ◌+◌, ◌/◌, ◌%◌, Bool, true, false, cond, not, ◌&&◌, ◌||◌, List, [], ◌∷◌, ◌++◌, Some, None, Option, ◌==◌, slice_index}
 use Rattle.bus.specs.declared.frame.Frame.{Frame}
 use Rattle.bus.specs.Frames.{is_command, message}
 use Rattle.station.specs.declared.event.Event.{Event}
@@ -8,8 +8,9 @@ use Rattle.station.specs.Kinds.{Record, Kind, from_link}
 use Rattle.relay.specs.declared.per_channel.PerChannel.{PerChannel}
 use Rattle.relay.specs.Contacts.{Contact, opened, closed, running}
 use Rattle.relay.specs.Relays.{contacts}
-use Rattle.laws.specs.Channels.{ChannelNumber, channel_1, channel_2, channel_3, channel_4, index, of_channel}
+use Rattle.laws.specs.Channels.{ChannelNumber, channel_1, channel_2, channel_3, channel_4, of_channel}
 use Rattle.relay_laws.specs.RelayCommands.{is_named}
+use Rattle.relay_laws.specs.RelayPairs.{place, PairNumber, Obeys}
 
 -- the bit of a channel
 abbrev pub bit_of : ChannelNumber → ℕ
@@ -68,28 +69,12 @@ changes_told own was is =
     in_turn (λ c. where_so (closes (of_channel c was) (of_channel c is) || opens (of_channel c was) (of_channel c is)) (channel_status own c (of_channel c is)))
     ++ one_switch own (bits_where (λ c. closes (of_channel c was) (of_channel c is))) (bits_where (λ c. opens (of_channel c was) (of_channel c is)))
 
--- pair q of a channel (table q / 15, not 3) bears the sender's address, and has a bit in common with the buttons just pressed
-abbrev pub fits : List ℕ → ChannelNumber → Frame → ℕ → Bool
-fits cells c f q =
-    not (q / 15 == 3)
-    && (slice_index cells (256 * index c + 2 * q) == f.address && not (bit_and (slice_index cells (256 * index c + 2 * q + 1)) (slice_index f.bytes 1) == 0))
-
-pub record IsFirst (cells : List ℕ) (c : ChannelNumber) (f : Frame) (q : ℕ) : Type 0 where
-  pub in_table : q < 120
-  pub it_fits : fits cells c f q ≡ true
-  pub none_before : (p : ℕ) → p < q → fits cells c f p ≡ false
-
--- the pair that the channel obeys is the first of its 120 that fits, if any does
-abbrev pub Obeys : List ℕ → ChannelNumber → Frame → Option ℕ → Type 0
-Obeys cells c f None = (p : ℕ) → p < 120 → fits cells c f p ≡ false
-Obeys cells c f (Some q) = IsFirst cells c f q
-
 -- the lamps of a channel with the pair that it obeyed: F6 where it closed, F5 where it opened, with the pair's bits
-abbrev pub lamp_told : List ℕ → ℕ → ChannelNumber → Option ℕ → Contact → Contact → List Frame
+abbrev pub lamp_told : List ℕ → ℕ → ChannelNumber → Option PairNumber → Contact → Contact → List Frame
 lamp_told cells a c None was is = []
-lamp_told cells a c (Some q) was is =
-    where_so (closes was is) (message 3 a (0xF6 ∷ slice_index cells (256 * index c + 2 * q + 1) ∷ []))
-    ++ where_so (opens was is) (message 3 a (0xF5 ∷ slice_index cells (256 * index c + 2 * q + 1) ∷ []))
+lamp_told cells a c (Some p) was is =
+    where_so (closes was is) (message 3 a (0xF6 ∷ slice_index cells (place c p.table p.number + 1) ∷ []))
+    ++ where_so (opens was is) (message 3 a (0xF5 ∷ slice_index cells (place c p.table p.number + 1) ∷ []))
 
 -- the event is a button status from a linked address
 abbrev pub by_link : Kind → ℕ → Record → Event → Bool
@@ -104,18 +89,19 @@ is_question own Second = false
 is_question own (Pushed p) = false
 
 -- what is sent is told by the contacts before and after. By no link: the changes alone. By a link: the changes, and then
--- for each channel that changed, in order, a lamp command with the bits of the pair obeyed; there is always such a pair,
--- or none fits. FA: the status of each channel named, in order. No other event is answered
+-- for each channel that changed, in order, a lamp command with the bits of the pair obeyed; there is always just one
+-- such pair, or none fits. FA: the status of each channel named, in order. No other event is answered
 pub record ReportsExactly (k : Kind) : Type 0 where
   pub by_itself :
       (own : ℕ) (r : Record) (e : Event) → is_question own e ≡ false → by_link k own r e ≡ false →
       (k.acts own r e).sent ≡ changes_told own (contacts r) (contacts (k.acts own r e).after)
   pub linked :
-      (own : ℕ) (r : Record) (f : Frame) (pair : ChannelNumber → Option ℕ) → from_link k own r f ≡ true → ((c : ChannelNumber) → Obeys r.cells c f (pair c)) →
+      (own : ℕ) (r : Record) (f : Frame) (pair : ChannelNumber → Option PairNumber) → from_link k own r f ≡ true → ((c : ChannelNumber) → Obeys r.cells c f (pair c)) →
       (k.acts own r (Heard f)).sent
       ≡ changes_told own (contacts r) (contacts (k.acts own r (Heard f)).after)
       ++ in_turn (λ c. lamp_told r.cells f.address c (pair c) (of_channel c (contacts r)) (of_channel c (contacts (k.acts own r (Heard f)).after)))
-  pub one_obeyed : (cells : List ℕ) (c : ChannelNumber) (f : Frame) → (p : Option ℕ) × Obeys cells c f p
+  pub some_obeyed : (cells : List ℕ) (c : ChannelNumber) (f : Frame) → (p : Option PairNumber) × Obeys cells c f p
+  pub no_other : (cells : List ℕ) (c : ChannelNumber) (f : Frame) (p q : Option PairNumber) → Obeys cells c f p → Obeys cells c f q → p ≡ q
   pub asked :
       (own : ℕ) (r : Record) (f : Frame) → f.address ≡ own → is_command 0xFA 2 f ≡ true →
       (k.acts own r (Heard f)).sent ≡ in_turn (λ c. where_so (is_named f c) (channel_status own c (of_channel c (contacts r))))

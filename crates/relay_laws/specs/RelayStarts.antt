@@ -11,7 +11,8 @@ use Rattle.laws.specs.Channels.{ChannelNumber, of_channel}
 use Rattle.kinds.specs.Kinds.{relay_kind}
 use Rattle.relay_laws.specs.RelayCommands.{Asks}
 use Rattle.laws.specs.Numbers.{seconds}
-use Rattle.relay_laws.specs.RelayLayout.{FirstFits, within_range}
+use Rattle.relay_laws.specs.RelayPairs.{FirstFits}
+use Rattle.relay_laws.specs.RelayLayout.{within_range}
 use Rattle.relay_laws.specs.RelayTimes.{NoneAsks, TimeRuns}
 
 -- after the event a time of n runs

@@ -12,15 +12,16 @@ use Rattle.relay.specs.Relays.{contacts}
 use Rattle.laws.specs.Channels.{ChannelNumber, of_channel}
 use Rattle.laws.specs.Numbers.{seconds_among}
 use Rattle.relay_laws.specs.RelayCommands.{is_named}
-use Rattle.relay_laws.specs.RelayReports.{bit_of, channel_status, fits}
+use Rattle.relay_laws.specs.RelayReports.{bit_of, channel_status}
 use Rattle.relay_laws.specs.RelayListener.{sent_over}
+use Rattle.relay_laws.specs.RelayPairs.{NoneFits}
 
 -- the event asks nothing of the channel: it is no 01, 02 or 03 at the own address that names it, and no button status from
 -- a linked address that a pair of the channel fits
 abbrev pub AsksNothing : Kind → ℕ → ChannelNumber → Record → Event → Type 0
 AsksNothing k own c r (Heard f) =
     (f.address ≡ own → ((is_command 0x01 2 f || (is_command 0x02 2 f || is_command 0x03 5 f)) && is_named f c) ≡ false)
-    × (from_link k own r f ≡ true → (q : ℕ) → q < 120 → fits r.cells c f q ≡ false)
+    × (from_link k own r f ≡ true → NoneFits r.cells c f)
 AsksNothing k own c r Second = Unit
 AsksNothing k own c r (Pushed p) = Unit
 
