@@ -86,35 +86,18 @@ fn lamps(command: u8, bits: u8) -> [u8; 12] {
     [3, 0x20, 0, 2, command, bits, 0, 0, 0, 0, 0, 0]
 }
 
-// By a pair in a table that toggles a timer: an open channel runs for this time; one that runs opens, one that is closed, and
-// one that runs by a command.
-fn toggles(
+// By a pair in a table that toggles a timer, an open channel runs for this time, and then opens.
+fn toggles_open(
     rt: &(impl Abort + AllocGlobal),
     [high, low]: [u8; 2],
     channel: u8,
     bits: u8,
     time: [u8; 3],
 ) -> Result<(), Fail> {
-    let opens = [
-        status(channel, 0, NONE),
-        switched(0, channel),
-        lamps(0xF5, bits),
-    ];
     timer_case(
         rt,
         DIFFERENT,
-        &[
-            link(high, low, 0x20, bits),
-            PRESS,
-            RELEASE,
-            PRESS,
-            RELEASE,
-            close(channel),
-            PRESS,
-            RELEASE,
-            run(channel),
-            PRESS,
-        ],
+        &[link(high, low, 0x20, bits), PRESS, RELEASE, PRESS],
         &[
             linked(high, low, 0x20, bits),
             PRESSED,
@@ -123,24 +106,52 @@ fn toggles(
             lamps(0xF6, bits),
             RELEASED,
             PRESSED,
-            opens[0],
-            opens[1],
-            opens[2],
-            RELEASED,
-            status(channel, 1, NONE),
-            switched(channel, 0),
-            PRESSED,
-            opens[0],
-            opens[1],
-            opens[2],
-            RELEASED,
-            status(channel, 3, [0, 0, 9]),
-            switched(channel, 0),
-            PRESSED,
-            opens[0],
-            opens[1],
-            opens[2],
+            status(channel, 0, NONE),
+            switched(0, channel),
+            lamps(0xF5, bits),
         ],
+    )
+}
+
+// One that a command closed, with this state and time, opens as well.
+fn toggles_closed(
+    rt: &(impl Abort + AllocGlobal),
+    [high, low]: [u8; 2],
+    channel: u8,
+    command: Input,
+    told: [u8; 12],
+) -> Result<(), Fail> {
+    timer_case(
+        rt,
+        DIFFERENT,
+        &[link(high, low, 0x20, 0x01), command, PRESS],
+        &[
+            linked(high, low, 0x20, 0x01),
+            told,
+            switched(channel, 0),
+            PRESSED,
+            status(channel, 0, NONE),
+            switched(0, channel),
+            lamps(0xF5, 0x01),
+        ],
+    )
+}
+
+fn toggles(
+    rt: &(impl Abort + AllocGlobal),
+    cell: [u8; 2],
+    channel: u8,
+    bits: u8,
+    time: [u8; 3],
+) -> Result<(), Fail> {
+    toggles_open(rt, cell, channel, bits, time)?;
+    toggles_closed(rt, cell, channel, close(channel), status(channel, 1, NONE))?;
+    toggles_closed(
+        rt,
+        cell,
+        channel,
+        run(channel),
+        status(channel, 3, [0, 0, 9]),
     )
 }
 

@@ -1,5 +1,5 @@
 -- What alone changes the holds, the pressed buttons, the lamps and the clock of a button interface. Assumes nothing.
-use Rattle.std.specs.Prelude.{◌≡◌, ℕ, ◌<◌, ◌≤◌, ◌≢◌, Bool, true, false, cond, ◌&&◌, ◌||◌, ◌⊎◌, List, ◌==◌, nat_lt, slice_index}
+use Rattle.std.specs.Prelude.{◌≡◌, ℕ, ◌<◌, ◌≤◌, ◌≢◌, Bool, true, false, if◌then◌else◌, ◌&&◌, ◌||◌, ◌⊎◌, List, ◌==◌, nat_lt, slice_index}
 use Rattle.bus.specs.declared.frame.Frame.{Frame}
 use Rattle.bus.specs.Frames.{is_command}
 use Rattle.station.specs.declared.event.Event.{Event}
@@ -12,7 +12,7 @@ use Rattle.module_laws.specs.InterfaceStates.{hold, pressed_bits, names_channel}
 -- or frees (5)
 abbrev pub record_asks : List ℕ → Frame → ℕ → ℕ → Bool
 record_asks cells f channel k =
-    fits cells f channel k && cond (record_byte cells k 2 == 3 || record_byte cells k 2 == 4) (nat_lt (record_byte cells k 3) 252) (record_byte cells k 2 == 5)
+    fits cells f channel k && (if record_byte cells k 2 == 3 || record_byte cells k 2 == 4 then nat_lt (record_byte cells k 3) 252 else record_byte cells k 2 == 5)
 
 -- the event asks nothing of a channel: it is no 12 and no 13 at the own address that names it, no button status from a
 -- linked address on which one of the 51 records asks something of it, and no second while a time runs

@@ -1,5 +1,5 @@
 -- What a button interface answers to those who ask for its status, its type and the time, and when it sends nothing. Assumes nothing.
-use Rattle.std.specs.Prelude.{◌≡◌, ℕ, ◌+◌, ◌≢◌, ◌⊎◌, Bool, true, false, cond, ◌&&◌, ◌||◌, [], ◌∷◌, ◌==◌}
+use Rattle.std.specs.Prelude.{◌≡◌, ℕ, ◌+◌, ◌≢◌, ◌⊎◌, Bool, true, false, if◌then◌else◌, ◌&&◌, ◌||◌, [], ◌∷◌, ◌==◌}
 use Rattle.bus.specs.declared.frame.Frame.{Frame}
 use Rattle.bus.specs.Frames.{is_command, message}
 use Rattle.station.specs.declared.event.Event.{Event}
@@ -9,13 +9,15 @@ use Rattle.interface.specs.declared.setup.InterfaceSetup.{InterfaceSetup}
 use Rattle.kinds.specs.Kinds.{buttons_kind}
 use Rattle.module_laws.specs.InterfaceStates.{hold, pressed_bits, day, hour, minute}
 
+-- a bit where there is a hold
+abbrev pub bit_where : ℕ → ℕ → ℕ
+bit_where h bit = if h == 0 then 0 else bit
+
 -- the bits of the channels with a hold
 abbrev pub held_channels : Record → ℕ
 held_channels r =
-    cond (hold r 1 == 0) 0 1
-    + (cond (hold r 2 == 0) 0 2
-    + (cond (hold r 3 == 0) 0 4
-    + (cond (hold r 4 == 0) 0 8 + (cond (hold r 5 == 0) 0 16 + (cond (hold r 6 == 0) 0 32 + (cond (hold r 7 == 0) 0 64 + cond (hold r 8 == 0) 0 128))))))
+    bit_where (hold r 1) 1 + (bit_where (hold r 2) 2 + (bit_where (hold r 3) 4 + (bit_where (hold r 4) 8
+    + (bit_where (hold r 5) 16 + (bit_where (hold r 6) 32 + (bit_where (hold r 7) 64 + bit_where (hold r 8) 128))))))
 
 -- FA with two bytes at the own address is answered by the status, and nothing else is sent
 abbrev pub StatusTold : Kind → Type 0

@@ -1,5 +1,5 @@
 -- What whoever listens to a relay knows of its contacts. Assumes nothing.
-use Rattle.std.specs.Prelude.{◌≡◌, ℕ, ◌/◌, ◌%◌, Bool, true, false, cond, ◌&&◌, List, [], ◌∷◌, ◌++◌, ◌==◌, slice_index}
+use Rattle.std.specs.Prelude.{◌≡◌, ℕ, ◌/◌, ◌%◌, Bool, true, false, if◌then◌else◌, ◌&&◌, List, [], ◌∷◌, ◌++◌, ◌==◌, slice_index}
 use Rattle.bus.specs.declared.frame.Frame.{Frame}
 use Rattle.bus.specs.Frames.{is_command}
 use Rattle.station.specs.declared.event.Event.{Event}
@@ -16,7 +16,7 @@ picture x = record { one = is_made x.one; two = is_made x.two; three = is_made x
 
 -- a contact in the picture after its bits in the second and in the third byte of a 00: made, no longer made, or as it was
 abbrev pub by_bits : ℕ → ℕ → Bool → Bool
-by_bits on off was = cond (on % 2 == 1) true (cond (off % 2 == 1) false was)
+by_bits on off was = if on % 2 == 1 then true else if off % 2 == 1 then false else was
 
 abbrev pub by_bytes : ℕ → ℕ → PerChannel Bool → PerChannel Bool
 by_bytes on off p =
@@ -24,7 +24,7 @@ by_bytes on off p =
 
 -- a listener heeds each 00 with four bytes from the address, and nothing else
 abbrev pub heard_one : ℕ → PerChannel Bool → Frame → PerChannel Bool
-heard_one own p f = cond (is_command 0x00 4 f && f.address == own) (by_bytes (slice_index f.bytes 1) (slice_index f.bytes 2) p) p
+heard_one own p f = if is_command 0x00 4 f && f.address == own then by_bytes (slice_index f.bytes 1) (slice_index f.bytes 2) p else p
 
 abbrev pub heard : ℕ → PerChannel Bool → List Frame → PerChannel Bool
 heard own p [] = p

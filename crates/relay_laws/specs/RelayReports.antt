@@ -1,5 +1,5 @@
 -- What a relay tells of its channels. Assumes nothing.
-use Rattle.std.specs.Prelude.{◌≡◌, ℕ, ◌+◌, ◌/◌, ◌%◌, Bool, true, false, cond, not, ◌&&◌, ◌||◌, List, [], ◌∷◌, ◌++◌, Some, None, Option, ◌==◌, slice_index}
+use Rattle.std.specs.Prelude.{◌≡◌, ℕ, ◌+◌, ◌/◌, ◌%◌, Bool, true, false, if◌then◌else◌, not, ◌&&◌, ◌||◌, List, [], ◌∷◌, ◌++◌, Some, None, Option, ◌==◌, slice_index}
 use Rattle.bus.specs.declared.frame.Frame.{Frame}
 use Rattle.bus.specs.Frames.{is_command, message}
 use Rattle.station.specs.declared.event.Event.{Event}
@@ -49,7 +49,7 @@ channel_status own c x =
 
 -- the frame, where it is so
 abbrev pub where_so : Bool → Frame → List Frame
-where_so b f = cond b (f ∷ []) []
+where_so b f = if b then f ∷ [] else []
 
 -- what is said of channel 1, then of 2, 3 and 4
 abbrev pub in_turn : (ChannelNumber → List Frame) → List Frame
@@ -57,7 +57,7 @@ in_turn say = say channel_1 ++ (say channel_2 ++ (say channel_3 ++ say channel_4
 
 -- the bits of the channels of which it is so
 abbrev pub bits_where : (ChannelNumber → Bool) → ℕ
-bits_where b = cond (b channel_1) 1 0 + (cond (b channel_2) 2 0 + (cond (b channel_3) 4 0 + cond (b channel_4) 8 0))
+bits_where b = (if b channel_1 then 1 else 0) + ((if b channel_2 then 2 else 0) + ((if b channel_3 then 4 else 0) + (if b channel_4 then 8 else 0)))
 
 -- the channels now closed and now open, by 00, if there are any
 abbrev pub one_switch : ℕ → ℕ → ℕ → List Frame
