@@ -20,13 +20,13 @@ use Rattle.module_laws.specs.AllSent.{HasHeader, SendsWithHeader, SendsAsItself,
 
 -- what does not begin with 00
 headed : (code a : ℕ) (bs : List ℕ) → 0 < code → HasHeader (message 3 a (code ∷ bs))
-headed code a bs h = record { urgent = λ e. absurd (omega (arith, e)); low = λ _. refl; rtr = refl }
+headed code a bs h = record { highest = λ e. absurd (omega (arith, e)); lowest = λ _. refl; rtr = refl }
 
 -- a button status
 headed_edge : (own : ℕ) (edge : Edge) (b : ℕ) → HasHeader (message 0 own (status_bytes edge b))
-headed_edge own Press b = record { urgent = λ _. refl; low = λ n. absurd (n refl); rtr = refl }
-headed_edge own Release b = record { urgent = λ _. refl; low = λ n. absurd (n refl); rtr = refl }
-headed_edge own LongPress b = record { urgent = λ _. refl; low = λ n. absurd (n refl); rtr = refl }
+headed_edge own Press b = record { highest = λ _. refl; lowest = λ n. absurd (n refl); rtr = refl }
+headed_edge own Release b = record { highest = λ _. refl; lowest = λ n. absurd (n refl); rtr = refl }
+headed_edge own LongPress b = record { highest = λ _. refl; lowest = λ n. absurd (n refl); rtr = refl }
 
 pub sends_headed : EveryModule SendsWithHeader
 sends_headed =
@@ -38,7 +38,7 @@ sends_headed =
             cell = λ h l b. headed 0xFE own (h ∷ l ∷ b ∷ []) (omega arith);
             block = λ h l a b c d. headed 0xCC own (h ∷ l ∷ a ∷ b ∷ c ∷ d ∷ []) (omega arith);
             channel = λ bit s a b c. headed 0xFB own (bit ∷ 0 ∷ s ∷ 0 ∷ a ∷ b ∷ c ∷ []) (omega arith);
-            switch = λ on off. record { urgent = λ _. refl; low = λ n. absurd (n refl); rtr = refl };
+            switch = λ on off. record { highest = λ _. refl; lowest = λ n. absurd (n refl); rtr = refl };
           })
           (λ a. record { on = λ bits. headed 0xF6 a (bits ∷ []) (omega arith); out = λ bits. headed 0xF5 a (bits ∷ []) (omega arith) });
       panel = λ s.

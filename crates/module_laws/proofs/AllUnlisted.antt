@@ -26,6 +26,7 @@ use Rattle.relay.proofs.Unchanged.{same_unreported}
 use Rattle.kinds.specs.Kinds.{relay_kind, panel_kind, buttons_kind, EveryRelay, EveryPanel, EveryButtonInterface}
 use Rattle.module_laws.specs.AllListed.{is_one_of, memory_commands, lamp_commands}
 use Rattle.module_laws.specs.AllMemory.{NothingComes}
+use Rattle.module_laws.proofs.LampCommands.{no_lamp_command}
 use Rattle.module_laws.specs.AllUnlisted.{of_relay, of_panel, of_interface, UnlistedIgnored, EveryUnlistedIgnored}
 use Rattle.module_laws.specs.StateBytes.{RelayBytes, PanelBytes, InterfaceBytes}
 use Rattle.module_laws.proofs.AllMemory.{same_record, relay_stays, panel_stays, interface_stays}
@@ -54,13 +55,11 @@ no_memory_in f others h =
 -- the lamp commands, and those behind them
 no_lamps_in : (f : Frame) (others : List (Frame → Bool)) → is_one_of (lamp_commands ++ others) f ≡ false → (is_one_of lamp_commands f ≡ false) × (is_one_of others f ≡ false)
 no_lamps_in f others h =
-    let a = or_parts (is_command 0xF4 4 f) _ h in
-    let b = or_parts (is_command 0xF5 2 f) _ a.1 in
-    let c = or_parts (is_command 0xF6 2 f) _ b.1 in
-    let d = or_parts (is_command 0xF7 2 f) _ c.1 in
-    let e = or_parts (is_command 0xF8 2 f) _ d.1 in
-    let g = or_parts (is_command 0xF9 2 f) _ e.1 in
-    (or_from _ _ a.0 (or_from _ _ b.0 (or_from _ _ c.0 (or_from _ _ d.0 (or_from _ _ e.0 (or_from _ _ g.0 refl))))), g.1)
+    let none = no_lamp_command f others h in (
+      or_from _ _ none.sets
+          (or_from _ _ none.puts_out (or_from _ _ none.puts_on (or_from _ _ none.puts_slow (or_from _ _ none.puts_fast (or_from _ _ none.puts_very_fast refl))))),
+      none.rest,
+    )
 
 module _ (own : ℕ) (cells : List ℕ) (f : Frame) (others : List (Frame → Bool)) (n : NoMemory f others) where
   unwritten : stored cells f ≡ cells

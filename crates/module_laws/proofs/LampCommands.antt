@@ -1,5 +1,5 @@
 -- What the lamp commands make of each lamp of a panel and of a button interface. Assumes nothing.
-use Rattle.std.proofs.Common.{◌≡◌, ℕ, ◌-◌, ◌/◌, ◌%◌, ◌^◌, ◌<◌, zero, suc, true, false, get_or, sym, refl, ap, ◌∙◌, arith}
+use Rattle.std.proofs.Common.{◌≡◌, ℕ, ◌-◌, ◌/◌, ◌%◌, ◌^◌, ◌<◌, zero, suc, true, false, get_or, sym, refl, ap, ◌∙◌, arith, Bool, List, [], ◌++◌}
 use Rattle.std.proofs.lemmas.Bool.{cond-true, cond-false, eq-eqb, ne_eqb, or_parts}
 use Rattle.bus.specs.declared.frame.Frame.{Frame}
 use Rattle.bus.specs.Frames.{byte, is_command}
@@ -84,18 +84,35 @@ lamps_put =
       buttons = λ s. all_put (buttons_design s) (λ own r f. refl) (lamps_obey.buttons s);
     }
 
--- what is no lamp command leaves the lamps
-pub lamps_same : (l : Lamps) (f : Frame) → is_one_of lamp_commands f ≡ false → lamps_after l f ≡ l
-lamps_same l f h =
+-- a frame is none of the lamp commands, and none of those behind them
+pub record IsNoLampCommand (f : Frame) (others : List (Frame → Bool)) : Type 0 where
+  pub sets : is_command 0xF4 4 f ≡ false
+  pub puts_out : is_command 0xF5 2 f ≡ false
+  pub puts_on : is_command 0xF6 2 f ≡ false
+  pub puts_slow : is_command 0xF7 2 f ≡ false
+  pub puts_fast : is_command 0xF8 2 f ≡ false
+  pub puts_very_fast : is_command 0xF9 2 f ≡ false
+  pub rest : is_one_of others f ≡ false
+
+pub no_lamp_command : (f : Frame) (others : List (Frame → Bool)) → is_one_of (lamp_commands ++ others) f ≡ false → IsNoLampCommand f others
+no_lamp_command f others h =
     let a = or_parts (is_command 0xF4 4 f) _ h in
     let b = or_parts (is_command 0xF5 2 f) _ a.1 in
     let c = or_parts (is_command 0xF6 2 f) _ b.1 in
     let d = or_parts (is_command 0xF7 2 f) _ c.1 in
     let e = or_parts (is_command 0xF8 2 f) _ d.1 in
     let g = or_parts (is_command 0xF9 2 f) _ e.1 in
-    cond-false (is_command 0xF4 4 f) _ _ a.0
-    ∙ (cond-false (is_command 0xF5 2 f) _ _ b.0
-    ∙ (cond-false (is_command 0xF6 2 f) _ _ c.0 ∙ (cond-false (is_command 0xF7 2 f) _ _ d.0 ∙ (cond-false (is_command 0xF8 2 f) _ _ e.0 ∙ cond-false (is_command 0xF9 2 f) _ _ g.0))))
+    record { sets = a.0; puts_out = b.0; puts_on = c.0; puts_slow = d.0; puts_fast = e.0; puts_very_fast = g.0; rest = g.1 }
+
+-- what is no lamp command leaves the lamps
+pub lamps_same : (l : Lamps) (f : Frame) → is_one_of lamp_commands f ≡ false → lamps_after l f ≡ l
+lamps_same l f h =
+    let none = no_lamp_command f [] h in
+    cond-false (is_command 0xF4 4 f) _ _ none.sets
+    ∙ (cond-false (is_command 0xF5 2 f) _ _ none.puts_out
+    ∙ (cond-false (is_command 0xF6 2 f) _ _ none.puts_on
+    ∙ (cond-false (is_command 0xF7 2 f) _ _ none.puts_slow
+    ∙ (cond-false (is_command 0xF8 2 f) _ _ none.puts_fast ∙ cond-false (is_command 0xF9 2 f) _ _ none.puts_very_fast))))
 
 -- what holds of each number below 3
 pub below_three : (P : ℕ → Type 0) → P 0 → P 1 → P 2 → (i : ℕ) → i < 3 → P i

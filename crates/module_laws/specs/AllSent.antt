@@ -9,8 +9,8 @@ use Rattle.kinds.specs.Kinds.{EveryRelay, EveryPanel, EveryButtonInterface}
 
 -- priority 0 in a frame that begins with 00 and 3 in any other; RTR 0
 pub record HasHeader (g : Frame) : Type 0 where
-  pub urgent : slice_index g.bytes 0 ≡ 0x00 → g.priority ≡ 0
-  pub low : slice_index g.bytes 0 ≢ 0x00 → g.priority ≡ 3
+  pub highest : slice_index g.bytes 0 ≡ 0x00 → g.priority ≡ 0
+  pub lowest : slice_index g.bytes 0 ≢ 0x00 → g.priority ≡ 3
   pub rtr : g.rtr ≡ 0
 
 -- each frame that is sent has such a header
