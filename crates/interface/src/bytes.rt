@@ -4,7 +4,8 @@ ghost use Rattle.station.specs.Seats.{nth};
 ghost use Rattle.interface.specs.States.{encoded, state_of, cells_of};
 
 use crate::interface::Interface;
-use module::Lamps;
+use crate::records::CELLS;
+use module::{Lamps, byte_at};
 
 impl Interface {
     // The state bytes: lamps, pressed buttons, the holds, and the time. A line a hold: with `map` over the holds the check did
@@ -59,10 +60,16 @@ impl Interface {
         ]
     }
 
-    // The byte at a place of the record: the cells, then the state bytes.
+    // The byte at a place of the record: the cells, then the state bytes, which are made only where one of them is asked
+    // for.
+    #[tactic(auto, using(module::proofs::Bytes::nth_left, module::proofs::Bytes::nth_right))]
     pub fn byte(&self, place: usize) -> Option<u8>
         ensures { result ≡ nth place (cells_of self.now ++ encoded (state_of self.now)) }
     {
-        self.records.memory.byte(&self.state(), place)
+        if place < CELLS {
+            Some(self.records.memory.read(place))
+        } else {
+            byte_at(&self.state(), place - CELLS)
+        }
     }
 }

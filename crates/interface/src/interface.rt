@@ -1,4 +1,6 @@
 // The state of a button interface.
+ghost use Rattle.timing.specs.Times.{Real};
+
 use crate::holds::Holds;
 use crate::records::Records;
 use module::{Buttons, Lamps};
@@ -12,4 +14,6 @@ pub struct Interface {
     pub(crate) buttons: Buttons,
     pub(crate) holds: Holds,
     pub(crate) clock: Clock,
+    // above this crate a clock is only the time that it shows, and its own word for it is not seen
+    ghost real: { Real clock },
 }

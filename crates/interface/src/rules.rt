@@ -2,7 +2,7 @@
 ghost use Rattle.std.specs.Prelude.{◌≡◌, replicate};
 ghost use Rattle.bus.specs.Outboxes.{Room, Sends};
 ghost use Rattle.station.specs.Rules.{stored};
-ghost use Rattle.timing.specs.Times.{midnight};
+ghost use Rattle.timing.specs.Times.{midnight, Real};
 ghost use Rattle.interface.specs.Interfaces.{commanded, clock_after, status_sent, type_sent, clock_sent, after_command, command_sent, after_broadcast, after_status, after_second, after_push, pushed_sent};
 ghost use Rattle.interface.specs.Links.{named};
 ghost use Rattle.interface.specs.States.{state_of, cells_of};
@@ -63,7 +63,8 @@ fn answer_clock(clock: &Clock, own: u8, frame: &Frame, out: &mut Outbox)
 
 // Sets the clock, where the frame asks that of all modules.
 fn set_clock(clock: &mut Clock, frame: &Frame)
-    ensures { clock.new ≡ clock_after clock.old frame.now }
+    ensures time { clock.new ≡ clock_after clock.old frame.now }
+    ensures real { Real clock.old → Real clock.new }
 {
     if frame.address == 0 && frame.is_command(0xD8, 4) {
         clock.set(frame.bytes[1], frame.bytes[2], frame.bytes[3]);

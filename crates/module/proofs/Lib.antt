@@ -1,3 +1,4 @@
+pub mod Bytes
 pub mod Sent
 pub mod First
 pub mod Passing
