@@ -17,6 +17,9 @@ use crate::timers::Timers;
 use bus::{Frame, Outbox};
 use module::{Memory, Rows, is_seatable, is_write};
 
+// From so many pairs in use on, a channel's list of them is no quicker to search than all of its pairs.
+const MANY: usize = 80;
+
 // Where pair p of channel c begins.
 pub(crate) fn pair_cell(c: u8, p: u8) -> usize
     ensures value { result ≡ pair_cell c p }
@@ -104,13 +107,14 @@ impl Pairs {
         used.iter().copied().find(|p| self.matches(c, query, *p))
     }
 
-    // The first pair of channel c that fits a query.
+    // The first pair of channel c that fits a query. Where most pairs are in use, going through all is quicker.
     fn first_pair(&self, c: u8, used: &Rows<PAIRS>, query: Query) -> Option<u8>
         requires { row_numbers used.now ≡ pairs_in_use (memory_cells self.now.memory) c }
         ensures { result ≡ first_pair (memory_cells self.now.memory) c query }
     {
-        if is_seatable(query.address) {
-            self.first_in_use(c, used.numbers(), query)
+        let used = used.numbers();
+        if is_seatable(query.address) && used.len() < MANY {
+            self.first_in_use(c, used, query)
         } else {
             self.first_of_all(c, query)
         }
