@@ -4,7 +4,7 @@ ghost use Rattle.terms.specs.Sizes.{cells_of};
 
 use std::fmt;
 
-#[derive(Clone, Copy)]
+#[derive(Clone, Copy, PartialEq, Eq)]
 pub enum ModuleType {
     Relay,
     Panel,
