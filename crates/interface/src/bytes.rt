@@ -60,8 +60,7 @@ impl Interface {
         ]
     }
 
-    // The byte at a place of the record: the cells, then the state bytes, which are made only where one of them is asked
-    // for.
+    // The byte at a place of the record: the cells, then the state bytes. For a cell these are not made.
     #[tactic(auto, using(module::proofs::Bytes::nth_left, module::proofs::Bytes::nth_right))]
     pub fn byte(&self, place: usize) -> Option<u8>
         ensures { result ≡ nth place (cells_of self.now ++ encoded (state_of self.now)) }

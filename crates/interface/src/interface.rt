@@ -14,6 +14,6 @@ pub struct Interface {
     pub(crate) buttons: Buttons,
     pub(crate) holds: Holds,
     pub(crate) clock: Clock,
-    // above this crate a clock is only the time that it shows, and its own word for it is not seen
+    // the time that the clock shows exists; clauses above `timing` see that time alone, and not what a clock promises of it
     ghost real: { Real clock },
 }
